@@ -1,0 +1,16 @@
+//! The rows of a pool's tables, accounts and bonds, read from the figures that a pool is opened with.
+mod account;
+mod bond;
+mod rows;
+
+pub use account::Account;
+pub use account::AccountFigures;
+pub use account::AccountRead;
+pub use account::Mode;
+pub use account::Right;
+pub use account::lendable;
+pub use bond::Bond;
+pub use bond::BondFigures;
+pub use bond::BondRead;
+pub use rows::ReadFrom;
+pub use rows::read_rows;

@@ -1,0 +1,5 @@
+pub mod Table
+pub mod Refusals
+pub mod Ranges
+pub mod Orders
+pub mod Faces
