@@ -10,3 +10,10 @@ pub struct OpenDay {
 pub struct ShutDay {
     pub(crate) number: u32,
 }
+
+/// The day that a caller holds, of either kind.
+#[derive(Drop)]
+pub enum Day {
+    Open(OpenDay),
+    Shut(ShutDay),
+}

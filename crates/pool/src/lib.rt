@@ -5,6 +5,7 @@ mod opening;
 mod views;
 
 use book::Book;
+pub use days::Day;
 pub use days::OpenDay;
 pub use days::ShutDay;
 pub use opening::Unopened;

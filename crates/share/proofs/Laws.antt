@@ -9,7 +9,6 @@ use Rattle.std.specs.shelf.Lists.{sum}
 use Rattle.std.proofs.shelf.Lists.{drop-more}
 use Rattle.std.proofs.shelf.Sums.{sumBy-cons}
 use Rattle.std.proofs.shelf.Tests.{cases-lt}
-use Rattle.sums.specs.Parts.{parted}
 use Rattle.sums.proofs.Fronts.{front-more}
 use Rattle.sums.proofs.Parted.{parted-sum, parted-length, parted-within, parted-none, zeros-sum, zeros-within}
 use Rattle.share.specs.Shares.{Shared, cappedAt, firstShares, evenShares}
