@@ -1,11 +1,9 @@
 -- The figures of an opening: which are refused, and the records that a pool opens with.
 use Prim.Native.Nat.{ℕ}
 use lib.Dec.{eqb}
-use lib.ListN.{length, getD}
-use mathlib.Core.Bool.{Bool, true, cond, not, _&&_}
+use lib.ListN.{getD}
+use mathlib.Core.Bool.{Bool, true, not, _&&_}
 use mathlib.Core.List.{List, [], _∷_, map}
-use Rattle.std.specs.declared.result.Result.{Result}
-use Rattle.std.specs.declared.result.Result.the-variants.{Ok, Err}
 use Rattle.terms.specs.Ranges.{allowed}
 use Rattle.terms.specs.Refusals.{refuse-order}
 use Rattle.terms.specs.declared.range.Range.the-variants as range
@@ -30,10 +28,6 @@ within f =
     && allowed range.LoanRows (f .«loan_rows»)
     && allowed range.Day (f .day)
     && allowed range.R001 (f .r001)
-
--- a table read from figures, or the refusal that names its first bad row
-abbrev pub read-table : {X Y : Type 0} → (X → Bool) → (X → Y) → List X → Result (List Y) Refusal
-read-table bad meant xs = cond (has-bad bad xs) (Err (refuse-order cause.Figure (first-bad bad xs))) (Ok (map meant xs))
 
 -- the spot is the number of the account or the bond, and 0 where the figure stands in no row
 abbrev pub figures-rules : Figures → List (Bool × Refusal)

@@ -1,25 +1,16 @@
 //! What a pool is opened with besides its books and its rule, and the records that it then keeps.
-ghost use lib.ListN.{length};
 ghost use mathlib.Core.Path.{_≡_};
-ghost use Rattle.std.specs.Vec.{made};
-ghost use Rattle.tables.specs.Accounts.{bad-account, account-of};
-ghost use Rattle.tables.specs.Bonds.{bad-bond, bond-of};
 ghost use Rattle.terms.specs.Table.{firstOf, answered};
 ghost use Rattle.records.specs.Kept.{keptIn};
-ghost use Rattle.records.specs.Openings.{house-without-right, within, read-table, figures-rules, opened-records};
+ghost use Rattle.records.specs.Openings.{house-without-right, within, figures-rules, opened-records};
 use crate::blank::no_presets;
 use crate::kept::Limits;
 use crate::kept::Records;
 use crate::kept::Time;
-use tables::Account;
 use tables::AccountFigures;
-use tables::AccountRead;
-use tables::Bond;
 use tables::BondFigures;
-use tables::BondRead;
-use tables::Mode;
-use tables::Right;
-use tables::read_rows;
+use tables::read_accounts;
+use tables::read_bonds;
 use terms::Cause;
 use terms::Range;
 use terms::Refusal;
@@ -56,40 +47,6 @@ impl Figures {
             && Range::Day.allows(self.day)
             && Range::R001.allows(self.r001)
     }
-
-    fn read_accounts(&self) -> Result<[Account; 32], Refusal>
-        ensures read { λ r. ⌜ r ≡ read-table bad-account account-of (now (self .entry) .accounts) ⌝ }
-        ensures sized { λ r. ⌜ made r (λ rows. length rows ≡ 32) ⌝ }
-    {
-        let nobody = Account {
-            right: Right::Neither,
-            grade: 0,
-            mode: Mode::Preset,
-        };
-        match read_rows::<_, Account, 32>(self.accounts, nobody) {
-            Ok(accounts) => Ok(accounts),
-            Err(row) => Err(Refusal::order(Cause::Figure, row as u64)),
-        }
-    }
-
-    fn read_bonds(&self) -> Result<[Bond; 16], Refusal>
-        ensures read { λ r. ⌜ r ≡ read-table bad-bond bond-of (now (self .entry) .bonds) ⌝ }
-        ensures sized { λ r. ⌜ made r (λ rows. length rows ≡ 16) ⌝ }
-    {
-        let nothing = Bond {
-            unit: 0,
-            price: 0,
-            discount: 0,
-            adjustment: 0,
-            lent_limit: 0,
-            pledge_limit: 0,
-            maturity: 0,
-        };
-        match read_rows::<_, Bond, 16>(self.bonds, nothing) {
-            Ok(bonds) => Ok(bonds),
-            Err(row) => Err(Refusal::order(Cause::Figure, row as u64)),
-        }
-    }
 }
 
 impl Records {
@@ -100,8 +57,8 @@ impl Records {
         if !figures.is_house_without_right() {
             return Err(Refusal::order(Cause::Figure, 0));
         }
-        let accounts = figures.read_accounts()?;
-        let bonds = figures.read_bonds()?;
+        let accounts = read_accounts(figures.accounts)?;
+        let bonds = read_bonds(figures.bonds)?;
         if !figures.is_within() {
             return Err(Refusal::order(Cause::Figure, 0));
         }

@@ -1,12 +1,18 @@
 //! Accounts: their rights and grades, how they lend, and what one may lend.
+ghost use lib.ListN.{length};
 ghost use mathlib.Core.Path.{_≡_};
+ghost use Rattle.std.specs.Vec.{made};
+ghost use Rattle.tables.specs.Rows.{read-table};
 ghost use Rattle.std.specs.declared.option.Option.the-variants.{Some, None};
 ghost use mathlib.Core.Bool.{cond};
 ghost use Rattle.terms.specs.Ranges.{allowed};
 ghost use Rattle.terms.specs.declared.range.Range.the-variants as range;
 ghost use Rattle.tables.specs.Accounts.{right-of, mode-of, isWhole, mayLend, lendableOf, bad-account, account-of};
 use crate::rows::ReadFrom;
+use crate::rows::read_rows;
+use terms::Cause;
 use terms::Range;
+use terms::Refusal;
 
 /// What a member may do.
 #[derive(Clone, Copy)]
@@ -84,7 +90,7 @@ pub struct AccountFigures {
     pub grade: u64,
 }
 
-pub impl ReadFrom<AccountFigures> for Account as AccountRead {
+impl ReadFrom<AccountFigures> for Account as AccountRead {
     ghost bad = { bad-account };
 
     ghost meant = { account-of };
@@ -99,6 +105,22 @@ pub impl ReadFrom<AccountFigures> for Account as AccountRead {
             grade: figures.grade as u8,
             mode: Mode::Preset,
         })
+    }
+}
+
+/// The accounts that the figures mean, or the refusal that names the first row with a figure outside its range.
+pub fn read_accounts(figures: [AccountFigures; 32]) -> Result<[Account; 32], Refusal>
+    ensures read { λ r. ⌜ r ≡ read-table bad-account account-of figures ⌝ }
+    ensures sized { λ r. ⌜ made r (λ rows. length rows ≡ 32) ⌝ }
+{
+    let nobody = Account {
+        right: Right::Neither,
+        grade: 0,
+        mode: Mode::Preset,
+    };
+    match read_rows::<_, Account, 32>(figures, nobody) {
+        Ok(accounts) => Ok(accounts),
+        Err(row) => Err(Refusal::order(Cause::Figure, row as u64)),
     }
 }
 

@@ -1,7 +1,14 @@
 //! Bonds: their units, prices, discounts, adjustments, limits and maturities.
+ghost use lib.ListN.{length};
+ghost use mathlib.Core.Path.{_≡_};
+ghost use Rattle.std.specs.Vec.{made};
+ghost use Rattle.tables.specs.Rows.{read-table};
 ghost use Rattle.tables.specs.Bonds.{bad-bond, bond-of};
 use crate::rows::ReadFrom;
+use crate::rows::read_rows;
+use terms::Cause;
 use terms::Range;
+use terms::Refusal;
 
 #[derive(Clone, Copy)]
 pub struct Bond {
@@ -32,7 +39,7 @@ pub struct BondFigures {
     pub maturity: u64,
 }
 
-pub impl ReadFrom<BondFigures> for Bond as BondRead {
+impl ReadFrom<BondFigures> for Bond as BondRead {
     ghost bad = { bad-bond };
 
     ghost meant = { bond-of };
@@ -60,5 +67,25 @@ pub impl ReadFrom<BondFigures> for Bond as BondRead {
             pledge_limit: figures.pledge_limit as u16,
             maturity: figures.maturity as u32,
         })
+    }
+}
+
+/// The bonds that the figures mean, or the refusal that names the first row with a figure outside its range.
+pub fn read_bonds(figures: [BondFigures; 16]) -> Result<[Bond; 16], Refusal>
+    ensures read { λ r. ⌜ r ≡ read-table bad-bond bond-of figures ⌝ }
+    ensures sized { λ r. ⌜ made r (λ rows. length rows ≡ 16) ⌝ }
+{
+    let nothing = Bond {
+        unit: 0,
+        price: 0,
+        discount: 0,
+        adjustment: 0,
+        lent_limit: 0,
+        pledge_limit: 0,
+        maturity: 0,
+    };
+    match read_rows::<_, Bond, 16>(figures, nothing) {
+        Ok(bonds) => Ok(bonds),
+        Err(row) => Err(Refusal::order(Cause::Figure, row as u64)),
     }
 }

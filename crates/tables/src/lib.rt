@@ -5,12 +5,10 @@ mod rows;
 
 pub use account::Account;
 pub use account::AccountFigures;
-pub use account::AccountRead;
 pub use account::Mode;
 pub use account::Right;
 pub use account::lendable;
+pub use account::read_accounts;
 pub use bond::Bond;
 pub use bond::BondFigures;
-pub use bond::BondRead;
-pub use rows::ReadFrom;
-pub use rows::read_rows;
+pub use bond::read_bonds;

@@ -8,7 +8,7 @@ ghost use Rattle.std.specs.declared.option.Option.the-variants.{Some, None};
 ghost use Rattle.tables.specs.Rows.{readRows};
 
 /// A row that is read from figures of the type F.
-pub trait ReadFrom<F>: Sized {
+pub(crate) trait ReadFrom<F>: Sized {
     /// A figure of the row is outside its range.
     ghost bad: { F → Bool };
 
@@ -20,7 +20,7 @@ pub trait ReadFrom<F>: Sized {
 }
 
 /// The rows that the figures mean, or the number of the first row with a figure outside its range.
-pub fn read_rows<F: Copy, R: ReadFrom<F> + Copy, const N: usize>(
+pub(crate) fn read_rows<F: Copy, R: ReadFrom<F> + Copy, const N: usize>(
     figures: [F; N],
     empty: R,
 ) -> Result<[R; N], usize>
