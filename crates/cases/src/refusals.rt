@@ -78,8 +78,10 @@ fn deliver_is_refused_in_order() -> Result<(), Fail> {
     check_eq(told(pool.deliver(&day, 1, 2, 0, 5_000_000)), (0, 0, ' '))?;
     check_eq(pool.bond_amount(64), Some(5_000_000))?;
     check_eq(pool.bond_amount(33), Some(700))?;
-    check_eq(told(pool.deliver(&day, 3, 2, 15, 1)), (0, 0, ' '))?;
-    check_eq(told(pool.deliver(&day, 2, 3, 15, 2)), (13, 2, 'B'))
+    check_eq(told(pool.deliver(&day, 2, 3, 15, 6)), (13, 2, 'B'))?;
+    check_eq(told(pool.deliver(&day, 2, 3, 15, 5)), (19, 3, 'B'))?;
+    check_eq(told(pool.deliver(&day, 3, 2, 15, 4)), (0, 0, ' '))?;
+    check_eq(told(pool.deliver(&day, 2, 3, 15, 4)), (0, 0, ' '))
 }
 
 #[test]

@@ -43,11 +43,12 @@ pub fn figures() -> Figures {
     }
 }
 
-/// Member 1 holds 5,000,000 available of bond 0, and 700 pledged; member 3 the largest amount of bond 15.
+/// Member 1 holds 5,000,000 available of bond 0, and 700 pledged; of bond 15 member 3 holds the largest amount and member 2 a little.
 pub fn stock() -> [u64; 1024] {
     let mut amounts = [0; 1024];
     amounts[32] = 5_000_000;
     amounts[33] = 700;
+    amounts[94] = 5;
     amounts[126] = 10_000_000_000_000;
     amounts
 }
