@@ -1,5 +1,4 @@
 -- A whole life: an opening and then a list of calls. After an accepted shut only a next comes, and a next comes only then.
-use Prim.Native.Nat.{ℕ}
 use mathlib.Core.Bool.{Bool, true, false, cond, not}
 use mathlib.Core.List.{List, [], _∷_}
 use mathlib.Core.Path.{_≡_}
@@ -19,27 +18,12 @@ use Rattle.pool.specs.declared.days.Day.{Day}
 use Rattle.pool.specs.declared.days.Day.the-variants as held
 use Rattle.pool.specs.declared.opening.Unopened.{Unopened}
 use Rattle.std.specs.declared.option.Option.the-variants.{Some, None}
-use Rattle.life.specs.declared.Lived.{Lived}
+use Rattle.life.specs.declared.whole.Lived.{Lived}
 
 -- the day that a caller holds is the pool's own
 abbrev pub Holds-day : State → Day → Type 0
 Holds-day s (held.Open d) = (s .kept .time .opened ≡ true) × (s .kept .time .day ≡ d .number)
 Holds-day s (held.Shut d) = (s .kept .time .opened ≡ false) × (s .kept .time .day ≡ d .number)
-
--- a call that neither ends nor begins a day
-abbrev pub within-day : Call → Bool
-within-day (Clock minute) = true
-within-day (Quota account bond face) = true
-within-day (Mode account mode) = true
-within-day (Price bond price) = true
-within-day (Deliver from to bond face) = true
-within-day (Remit from to fen) = true
-within-day Shut = false
-within-day (Next number r001) = false
-
--- the pool after a call within the day, made with a day of that number; other calls are not made
-abbrev pub made : State → ℕ → Call → State
-made s day call = cond (within-day call) (next s day call) s
 
 -- a call comes while the day is open, and a next while it is shut
 abbrev pub comes : State → Call → Bool

@@ -2,7 +2,7 @@ use mathlib.Core.Path.{_≡_}
 use lib.ListN.{drop}
 use Rattle.pool.specs.State.{stateOf}
 use Rattle.life.specs.Lives.{Holds-day, ended}
-use Rattle.life.proofs.run.Given as given
+use Rattle.life.proofs.whole.run.Given as given
 
 -- the calls that are left lead from here to where all lead from the start
 abbrev pub Inv-loop-call : given.InvT-loop-call

@@ -4,8 +4,8 @@ use Rattle.pool.specs.State.{State, stateOf}
 use Rattle.pool.specs.Life.{began, Leads-to}
 use Rattle.pool.proofs.Laws.{law}
 use Rattle.life.specs.Lives.{told, ended}
-use Rattle.life.proofs.Steps.{leads-on}
-use Rattle.life.proofs.live_on.Needs as need
+use Rattle.life.proofs.Histories.{leads-on}
+use Rattle.life.proofs.whole.live_on.Needs as need
 
 pub returns-in-Ok : need.returns-in-Ok
 returns-in-Ok g c =
