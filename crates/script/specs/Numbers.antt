@@ -1,0 +1,32 @@
+-- The number that a word writes.
+use Prim.Native.Nat.{ℕ, _+_, _-_, _*_, _^_}
+use lib.Dec.{ltb}
+use mathlib.Core.Bool.{cond}
+use mathlib.Core.List.{List, [], _∷_}
+use Rattle.std.specs.declared.result.Result.{Result}
+use Rattle.std.specs.declared.result.Result.the-variants.{Ok, Err}
+use Rattle.std.specs.shelf.Text.{allDigits}
+use Rattle.script.specs.declared.fault.Fault.{Fault}
+use Rattle.script.specs.declared.fault.Fault.the-variants as fault
+use Rattle.script.specs.declared.numbers.NumberFault.{NumberFault}
+use Rattle.script.specs.declared.numbers.NumberFault.the-variants.{Empty, NotDigits, TooLarge}
+
+-- what is wrong with a line whose number is at fault
+abbrev pub faultOf : NumberFault → Fault
+faultOf Empty = fault.MissingNumber
+faultOf NotDigits = fault.NotNumber
+faultOf TooLarge = fault.TooLarge
+
+-- n, followed by decimal digits
+abbrev pub followed : ℕ → List ℕ → ℕ
+followed n [] = n
+followed n (c ∷ cs) = followed (n * 10 + (c - 48)) cs
+
+-- what digits write, if it is below 2^64
+abbrev pub fitting : ℕ → Result ℕ NumberFault
+fitting n = cond (ltb n (2 ^ 64)) (Ok n) (Err TooLarge)
+
+-- digits write their value, and every other word is at fault: it is empty, has a byte that is no digit, or is too large
+abbrev pub reading : List ℕ → Result ℕ NumberFault
+reading [] = Err Empty
+reading (c ∷ cs) = cond (allDigits (c ∷ cs)) (fitting (followed 0 (c ∷ cs))) (Err NotDigits)
