@@ -1,9 +1,9 @@
 //! A line that cannot be read.
+use input::Lines;
 use script::Fault;
 use script::Item;
 use script::LineError;
 use script::LineErrorDisplay;
-use script::Lines;
 use script::parse_line;
 use std::fmt;
 

@@ -1,6 +1,6 @@
 //! Where the answers go.
-use script::Answer;
-use script::AnswerDisplay;
+use answers::Answer;
+use answers::AnswerDisplay;
 use std::io;
 use std::io::BufWriter;
 use std::io::Stdout;

@@ -3,17 +3,17 @@ use crate::damage::Damage;
 use crate::damage::read;
 use crate::output::Output;
 use crate::settle::run_without_pool;
+use answers::Answer;
 use book::Book;
+use input::Lines;
 use life::Outcome;
 use life::Stepped;
 use life::step;
 use pool::Day;
 use pool::Pool;
 use records::Figures;
-use script::Answer;
 use script::Fault;
 use script::Item;
-use script::Lines;
 use share::SharingRule;
 
 /// Opens a pool, and runs the rest of a script with it.

@@ -3,11 +3,11 @@ use crate::damage::Damage;
 use crate::damage::read;
 use crate::dispatch::open;
 use crate::output::Output;
-use script::Answer;
-use script::Draft;
+use answers::Answer;
+use draft::Draft;
+use input::Lines;
 use script::Fault;
 use script::Item;
-use script::Lines;
 
 /// Settles a script: collects the opening part, and runs the rest with the pool that it opens.
 pub fn settle<'a>(script: &'a [u8], out: &mut Output) -> Result<(), Damage<'a>> {

@@ -1,4 +1,1 @@
-pub mod Numbers
-pub mod Answers
-pub mod Drafts
-pub mod Lines
+pub mod Faults

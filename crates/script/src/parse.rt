@@ -1,7 +1,7 @@
 //! Reads one line of a script.
 ghost use mathlib.Core.Path.{_≡_};
 ghost use Rattle.std.specs.Vec.{made};
-ghost use Rattle.script.specs.Lines.{Clean};
+ghost use Rattle.script.specs.Faults.{Clean};
 use crate::fault::Fault;
 use crate::fault::LineError;
 use crate::item::Item;

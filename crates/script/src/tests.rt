@@ -1,30 +1,7 @@
-//! Lines of every kind and every kind of damage, and the answers as they are written.
-use crate::numbers::NumberFaultDebug;
-use crate::numbers::NumberFaultPartialEq;
+//! Lines of every kind and every kind of damage.
 use crate::*;
 use std::test::*;
 use terms::Call;
-use terms::Cause;
-use terms::Refusal;
-
-#[test]
-fn numbers() -> Result<(), Fail> {
-    let read = [
-        ("0", Ok(0)),
-        ("007", Ok(7)),
-        ("18446744073709551615", Ok(u64::MAX)),
-        ("00018446744073709551615", Ok(u64::MAX)),
-        ("18446744073709551616", Err(NumberFault::TooLarge)),
-        ("99999999999999999999999", Err(NumberFault::TooLarge)),
-        ("", Err(NumberFault::Empty)),
-        ("+1", Err(NumberFault::NotDigits)),
-        ("99999999999999999999999x", Err(NumberFault::NotDigits)),
-    ];
-    for (word, value) in read {
-        check_eq(number(word), value)?;
-    }
-    Ok(())
-}
 
 // Each line is damaged, in these words.
 fn refuses(rt: &LibcRuntime, lines: &[(&[u8], &str)]) -> Result<(), Fail> {
@@ -150,70 +127,6 @@ fn sayings() -> Result<(), Fail> {
     ];
     for (line, text) in read {
         check_eq(said(line), text)?;
-    }
-    Ok(())
-}
-
-// The first damage of an opening, if any.
-fn collect(draft: &mut Draft, lines: &[&str]) -> Option<Fault> {
-    for line in lines {
-        if let Ok(Some(Item::Part(part))) = parse_line(line.as_bytes()) {
-            if let Err(fault) = draft.take(part) {
-                return Some(fault);
-            }
-        }
-    }
-    None
-}
-
-#[test]
-fn drafts() -> Result<(), Fail> {
-    let mut draft = Draft::new();
-    let lines = [
-        "books netting standing",
-        "rule even",
-        "stock 31 15 7 9",
-        "bond 15 1 2 3 4 5 6 7",
-    ];
-    check(collect(&mut draft, &lines).is_none())?;
-    check(draft.stocks[1022] == 7 && draft.stocks[1023] == 9 && draft.stocks[1021] == 0)?;
-    check_eq(draft.bonds[15].unit, 1)?;
-    check_eq(draft.bonds[15].maturity, 7)?;
-    check_eq(draft.bonds[14].maturity, 1)?;
-    check(matches!(draft.bond_book, BookKind::Netting))?;
-    check(matches!(draft.cash_book, BookKind::Standing))?;
-    check(matches!(draft.rule, RuleKind::Even))?;
-    let no_account = collect(&mut draft, &["stock 32 16 0 0"]);
-    check(matches!(no_account, Some(Fault::NoAccount(32))))?;
-    let no_bond = collect(&mut draft, &["stock 31 16 0 0"]);
-    check(matches!(no_bond, Some(Fault::NoBond(16))))
-}
-
-#[test]
-fn lines() -> Result<(), Fail> {
-    let mut lines = Lines::new(b"a\n\nb");
-    for line in [b"a".as_slice(), b"", b"b"] {
-        check_eq(lines.next(), Some(line))?;
-    }
-    check_eq(lines.number(), 3)?;
-    check_eq(lines.next(), None)
-}
-
-#[test]
-fn answers(rt: LibcRuntime) -> Result<(), Fail> {
-    let short = Refusal::bond_book(Cause::Short, 5);
-    let (place, account, amount) = (1023, 31, 8);
-    let written = [
-        (Answer::Accepted, "ok"),
-        (Answer::Refused(short), "refused 13 short at 5 in B"),
-        (Answer::Lendable(u64::MAX), "lendable 18446744073709551615"),
-        (Answer::BondAmount { place, amount }, "B 31 15 1 8"),
-        (Answer::CashAmount { account, amount }, "C 31 8"),
-        (Answer::NoPool, "no pool"),
-        (Answer::DayIsShut, "day is shut"),
-    ];
-    for (answer, line) in written {
-        check_eq(format!(rt.alloc(), "{answer}")?.as_str(), line)?;
     }
     Ok(())
 }

@@ -1,12 +1,12 @@
 //! The words of a line, one after another. The first damage is kept, and told at the end.
 ghost use mathlib.Core.Path.{_≡_};
-ghost use Rattle.script.specs.Numbers.{faultOf};
+ghost use Rattle.script.specs.Faults.{faultOf};
 use crate::fault::Fault;
 use crate::fault::LineError;
 use crate::item::BookKind;
 use crate::item::RuleKind;
-use crate::numbers::NumberFault;
-use crate::numbers::number;
+use input::NumberFault;
+use input::number;
 
 /// What is still to be read of a line, and the first damage so far.
 #[derive(Drop)]

@@ -1,8 +1,0 @@
-use mathlib.Core.Path.{refl}
-use lib.ListN.{length-replicate}
-use Rattle.script.specs.Drafts.{every}
-use Rattle.script.proofs.collect.rows.Needs as need
-
-pub returns : need.returns
-unfolding every
-returns g c = record { value = refl; sized = length-replicate (g .N) (c .args .row) }
