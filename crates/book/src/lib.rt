@@ -12,8 +12,6 @@ mod refusal;
 mod standing_bonds;
 mod standing_cash;
 mod standing_row;
-#[cfg(test)]
-mod tests;
 
 pub use places::available_place;
 pub use places::pledged_place;

@@ -1,14 +1,20 @@
-//! Worked cases: a table that is proved, and runs of the pool on edge values and refusals.
+//! Worked cases: a table that is proved, and runs of the parts of the pool on edge values.
+#[cfg(test)]
+mod answering;
+#[cfg(test)]
+mod drafts;
 #[cfg(test)]
 mod edges;
 #[cfg(test)]
-mod lives;
+mod money;
 #[cfg(test)]
-mod openings;
+mod netted;
 #[cfg(test)]
-mod refusals;
+mod reading;
 #[cfg(test)]
-mod sample;
+mod sharing;
+#[cfg(test)]
+mod standing;
 mod worked;
 
 pub use worked::WorkedFigures;

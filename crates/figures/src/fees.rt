@@ -75,23 +75,3 @@ fn half_up(amount: u64, by: u64) -> u64
 {
     (amount + by / 2) / by
 }
-
-#[cfg(test)]
-mod tests {
-    use super::*;
-    use std::test::*;
-
-    #[test]
-    fn one_day_at_one_and_a_quarter() -> Result<(), Fail> {
-        check_eq(rate(17_500), 12_500)?;
-        check_eq(fee(10_000_000, 12_500, 1), 34_247)?;
-        check_eq(clearing_fee(10_000_000, 1), 2_000)?;
-        let mut shares = [0; 32];
-        shares[0] = 6_000_000;
-        shares[1] = 4_000_000;
-        let parts = lender_parts(34_247, 2_000, &shares);
-        check(parts[0] == 19_348 && parts[1] == 12_898)?;
-        check_eq(house_keeps(34_247, 2_000, &shares), 2_001)?;
-        check_eq(house_keeps(34_247, 2_000, &[0; 32]), 34_247)
-    }
-}

@@ -51,20 +51,3 @@ pub fn covers(rows: u128, lent: u64, fee: u64) -> bool
 {
     rows >= lent as u128 + fee as u128
 }
-
-#[cfg(test)]
-mod tests {
-    use super::*;
-    use std::test::*;
-
-    #[test]
-    fn a_pledge_covers_to_the_last_fen() -> Result<(), Fail> {
-        let lent = lent_value(10_000_000, 10_000, 10_500);
-        let rows = row_value(11_670_000, 10_000, 9_000, multiplier(0)) as u128;
-        check(covers(rows, lent, 34_247))?;
-        let fewer = row_value(11_660_000, 10_000, 9_000, multiplier(0)) as u128;
-        check(!covers(fewer, lent, 34_247))?;
-        check(covers(lent as u128 + 34_247, lent, 34_247))?;
-        check_eq(for_share(199, 101), 200)
-    }
-}

@@ -85,19 +85,3 @@ fn after(bytes: &[u8], place: usize) -> &[u8]
         &[]
     }
 }
-
-#[cfg(test)]
-mod tests {
-    use super::*;
-    use std::test::*;
-
-    #[test]
-    fn lines() -> Result<(), Fail> {
-        let mut lines = Lines::new(b"a\n\nb");
-        for line in [b"a".as_slice(), b"", b"b"] {
-            check_eq(lines.next(), Some(line))?;
-        }
-        check_eq(lines.number(), 3)?;
-        check_eq(lines.next(), None)
-    }
-}

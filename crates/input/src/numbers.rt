@@ -4,7 +4,7 @@ ghost use Rattle.std.specs.shelf.Text.{allDigits};
 ghost use Rattle.input.specs.Numbers.{reading};
 
 /// Why a word is no number.
-#[derive(Clone, Copy, Debug, PartialEq)]
+#[derive(Clone, Copy)]
 pub enum NumberFault {
     Empty,
     NotDigits,
@@ -36,29 +36,4 @@ fn is_all_digits(word: &[u8]) -> bool
         }
     }
     true
-}
-
-#[cfg(test)]
-mod tests {
-    use super::*;
-    use std::test::*;
-
-    #[test]
-    fn numbers() -> Result<(), Fail> {
-        let read = [
-            ("0", Ok(0)),
-            ("007", Ok(7)),
-            ("18446744073709551615", Ok(u64::MAX)),
-            ("00018446744073709551615", Ok(u64::MAX)),
-            ("18446744073709551616", Err(NumberFault::TooLarge)),
-            ("99999999999999999999999", Err(NumberFault::TooLarge)),
-            ("", Err(NumberFault::Empty)),
-            ("+1", Err(NumberFault::NotDigits)),
-            ("99999999999999999999999x", Err(NumberFault::NotDigits)),
-        ];
-        for (word, value) in read {
-            check_eq(number(word), value)?;
-        }
-        Ok(())
-    }
 }

@@ -2,8 +2,6 @@
 mod netting_bonds;
 mod netting_cash;
 mod netting_row;
-#[cfg(test)]
-mod tests;
 
 pub use netting_bonds::NettingBonds;
 pub use netting_bonds::NettingBondsBook;

@@ -2,8 +2,6 @@
 mod fault;
 mod item;
 mod parse;
-#[cfg(test)]
-mod tests;
 mod words;
 
 pub use fault::Fault;

@@ -34,28 +34,3 @@ fn within(limit: u64, want: u64) -> u64
 {
     limit.min(want)
 }
-
-#[cfg(test)]
-mod tests {
-    use super::*;
-    use std::test::*;
-
-    #[test]
-    fn parts_by_the_limits() -> Result<(), Fail> {
-        let mut limits = [0; 32];
-        limits[0] = 5;
-        limits[1] = 3;
-        limits[2] = 4;
-        let shares = EvenRule.share(&limits, 6);
-        check(shares[0] == 3 && shares[1] == 1 && shares[2] == 2)
-    }
-
-    #[test]
-    fn limits_above_the_want_count_as_it() -> Result<(), Fail> {
-        let mut limits = [0; 32];
-        limits[0] = 900;
-        limits[1] = 10;
-        let shares = EvenRule.share(&limits, 10);
-        check(shares[0] == 5 && shares[1] == 5)
-    }
-}

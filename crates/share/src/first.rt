@@ -30,19 +30,3 @@ fn fill(left: &mut u64, limit: u64) -> u64
     *left -= given;
     given
 }
-
-#[cfg(test)]
-mod tests {
-    use super::*;
-    use std::test::*;
-
-    #[test]
-    fn fills_in_rising_order() -> Result<(), Fail> {
-        let mut limits = [0; 32];
-        limits[0] = 5;
-        limits[1] = 3;
-        limits[2] = 4;
-        let shares = FirstRule.share(&limits, 6);
-        check(shares[0] == 5 && shares[1] == 1 && shares[2] == 0)
-    }
-}

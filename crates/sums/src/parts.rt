@@ -62,22 +62,3 @@ fn take_unit(left: &mut u64, amount: u64, weight: u64, all: u128) -> u64
     *left -= 1;
     1
 }
-
-#[cfg(test)]
-mod tests {
-    use super::*;
-    use std::test::*;
-
-    #[test]
-    fn odd_units_go_to_the_lowest() -> Result<(), Fail> {
-        let mut weights = [0; 32];
-        check_eq(part_by(6, &weights)[0], 0)?;
-        weights[1] = 5;
-        weights[2] = 3;
-        weights[7] = 4;
-        let floors = floor_parts(6, &weights);
-        check(floors[1] == 2 && floors[2] == 1 && floors[7] == 2)?;
-        let parts = part_by(6, &weights);
-        check(parts[1] == 3 && parts[2] == 1 && parts[7] == 2)
-    }
-}

@@ -44,15 +44,3 @@ pub impl AmountFor<Every> for u64 as WholeAmount {
         *self
     }
 }
-
-#[cfg(test)]
-mod tests {
-    use super::*;
-    use std::test::*;
-
-    #[test]
-    fn totals() -> Result<(), Fail> {
-        check_eq(total(&[5u64, 3, 4], &Every), 12)?;
-        check_eq(total(&[0u64; 32], &Every), 0)
-    }
-}

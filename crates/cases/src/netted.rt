@@ -1,6 +1,6 @@
 //! Worked moves on the netting books, and a refusal of each kind.
-use crate::*;
 use book::*;
+use netting::*;
 use std::test::*;
 
 // A row that holds the same amount everywhere.

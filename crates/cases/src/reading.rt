@@ -1,7 +1,49 @@
 //! Lines of every kind and every kind of damage.
-use crate::*;
+use input::Lines;
+use input::NumberFault;
+use input::number;
+use script::*;
 use std::test::*;
 use terms::Call;
+
+// What a word reads as: a number, or the reason that it is none.
+fn reads(word: &str) -> Result<u64, &'static str> {
+    match number(word) {
+        Ok(value) => Ok(value),
+        Err(NumberFault::Empty) => Err("empty"),
+        Err(NumberFault::NotDigits) => Err("not digits"),
+        Err(NumberFault::TooLarge) => Err("too large"),
+    }
+}
+
+#[test]
+fn numbers() -> Result<(), Fail> {
+    let read = [
+        ("0", Ok(0)),
+        ("007", Ok(7)),
+        ("18446744073709551615", Ok(u64::MAX)),
+        ("00018446744073709551615", Ok(u64::MAX)),
+        ("18446744073709551616", Err("too large")),
+        ("99999999999999999999999", Err("too large")),
+        ("", Err("empty")),
+        ("+1", Err("not digits")),
+        ("99999999999999999999999x", Err("not digits")),
+    ];
+    for (word, value) in read {
+        check_eq(reads(word), value)?;
+    }
+    Ok(())
+}
+
+#[test]
+fn lines() -> Result<(), Fail> {
+    let mut lines = Lines::new(b"a\n\nb");
+    for line in [b"a".as_slice(), b"", b"b"] {
+        check_eq(lines.next(), Some(line))?;
+    }
+    check_eq(lines.number(), 3)?;
+    check_eq(lines.next(), None)
+}
 
 // Each line is damaged, in these words.
 fn refuses(rt: &LibcRuntime, lines: &[(&[u8], &str)]) -> Result<(), Fail> {

@@ -1,5 +1,5 @@
 //! Worked moves on the standing books, and a refusal of each kind.
-use crate::*;
+use book::*;
 use std::test::*;
 
 // A row that holds the same amount everywhere.
