@@ -9,9 +9,6 @@ ghost use Rattle.book.specs.Moves.{amountAt, refusal, moved};
 mod places;
 mod readers;
 mod refusal;
-mod standing_bonds;
-mod standing_cash;
-mod standing_row;
 
 pub use places::available_place;
 pub use places::pledged_place;
@@ -19,11 +16,6 @@ pub use readers::has_room;
 pub use readers::held;
 pub use readers::is_fit;
 pub use refusal::MoveRefusal;
-pub use standing_bonds::StandingBonds;
-pub use standing_bonds::StandingBondsBook;
-pub use standing_cash::StandingCash;
-pub use standing_cash::StandingCashBook;
-pub use standing_row::Standing;
 
 /// The largest amount that a move may bring a place to.
 pub const LARGEST_AMOUNT: u64 = 10_000_000_000_000;

@@ -14,7 +14,7 @@ mod reading;
 #[cfg(test)]
 mod sharing;
 #[cfg(test)]
-mod standing;
+mod stood;
 mod worked;
 
 pub use worked::WorkedFigures;

@@ -3,10 +3,6 @@ use crate::damage::Damage;
 use crate::output::Output;
 use crate::serve::run;
 use book::Book;
-use book::StandingBonds;
-use book::StandingBondsBook;
-use book::StandingCash;
-use book::StandingCashBook;
 use draft::Draft;
 use input::Lines;
 use netting::NettingBonds;
@@ -21,6 +17,10 @@ use share::EvenRule;
 use share::EvenSharing;
 use share::FirstRule;
 use share::FirstSharing;
+use standing::StandingBonds;
+use standing::StandingBondsBook;
+use standing::StandingCash;
+use standing::StandingCashBook;
 
 /// Opens the pool of a draft, and runs the rest of the script with it.
 pub fn open<'a>(

@@ -3,9 +3,6 @@ use crate::sample::balances;
 use crate::sample::figures;
 use crate::sample::stock;
 use crate::sample::told;
-use book::Standing;
-use book::StandingBondsBook;
-use book::StandingCashBook;
 use netting::Netting;
 use netting::NettingBondsBook;
 use pool::Pool;
@@ -13,6 +10,9 @@ use records::Figures;
 use records::Records;
 use share::FirstRule;
 use share::FirstSharing;
+use standing::Standing;
+use standing::StandingBondsBook;
+use standing::StandingCashBook;
 use std::test::*;
 
 fn spot_of(figures: &Figures) -> (u8, u64, char) {

@@ -3,14 +3,14 @@ use crate::sample::bonds;
 use crate::sample::cash;
 use crate::sample::figures;
 use crate::sample::told;
-use book::StandingBonds;
-use book::StandingBondsBook;
-use book::StandingCash;
-use book::StandingCashBook;
 use pool::OpenDay;
 use pool::Pool;
 use share::EvenRule;
 use share::EvenSharing;
+use standing::StandingBonds;
+use standing::StandingBondsBook;
+use standing::StandingCash;
+use standing::StandingCashBook;
 use std::test::*;
 
 type Sample = Pool<StandingBonds, StandingCash, EvenRule>;

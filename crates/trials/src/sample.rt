@@ -1,7 +1,7 @@
 //! A pool to try calls on: members 1 to 4, bonds 0 and 1.
-use book::StandingBonds;
-use book::StandingCash;
 use records::Figures;
+use standing::StandingBonds;
+use standing::StandingCash;
 use tables::AccountFigures;
 use tables::BondFigures;
 use terms::Refusal;

@@ -1,5 +1,6 @@
 //! Worked moves on the standing books, and a refusal of each kind.
 use book::*;
+use standing::*;
 use std::test::*;
 
 // A row that holds the same amount everywhere.

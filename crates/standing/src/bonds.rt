@@ -1,22 +1,22 @@
-//! The standing book of cash: a place for each of 32 accounts.
+//! The standing book of bonds: an available and a pledged place for each of 32 accounts and 16 bonds.
 ghost use Rattle.book.specs.Moves.{largestAmount};
-use crate::Book;
-use crate::LARGEST_AMOUNT;
-use crate::MoveRefusal;
 use crate::Standing;
+use book::Book;
+use book::LARGEST_AMOUNT;
+use book::MoveRefusal;
 
-/// A standing book with the places of cash.
-pub type StandingCash = Standing<32>;
+/// A standing book with the places of bonds.
+pub type StandingBonds = Standing<1024>;
 
 /// As a book, it is what its row says.
-pub impl Book for Standing<32> as StandingCashBook {
-    const PLACES: usize = 32;
+pub impl Book for Standing<1024> as StandingBondsBook {
+    const PLACES: usize = 1024;
 
     const LARGEST: u64 = LARGEST_AMOUNT;
 
     ghost amounts = { λ b. b .amounts };
 
-    ghost count = { 32 };
+    ghost count = { 1024 };
 
     ghost most = { largestAmount };
 

@@ -2,9 +2,9 @@
 ghost use mathlib.Core.Path.{_≡_};
 ghost use lib.ListN.{length};
 ghost use Rattle.terms.specs.Table.{answered, settled};
 ghost use Rattle.book.specs.Moves.{amountAt, refusal, moved, largestAmount};
-use crate::LARGEST_AMOUNT;
-use crate::MoveRefusal;
+use book::LARGEST_AMOUNT;
+use book::MoveRefusal;
 
 /// A row of places, each with its amount.
 #[derive(Drop)]
