@@ -16,7 +16,7 @@ pub struct Damage<'a> {
 
 impl<'a> Damage<'a> {
     /// The line that was read last is at fault.
-    pub fn of_line(lines: &Lines<'a>, fault: Fault) -> Damage<'a> {
+    pub(crate) fn of_line(lines: &Lines<'a>, fault: Fault) -> Damage<'a> {
         Damage {
             line: lines.number(),
             error: LineError::of_line(fault),
@@ -33,7 +33,7 @@ pub impl<'a> fmt::Display for Damage<'a> as DamageDisplay {
 }
 
 /// The item of the line that was read last; `None` where it has none.
-pub fn read<'a>(lines: &Lines<'a>, line: &'a [u8]) -> Result<Option<Item<'a>>, Damage<'a>> {
+pub(crate) fn read<'a>(lines: &Lines<'a>, line: &'a [u8]) -> Result<Option<Item<'a>>, Damage<'a>> {
     match parse_line(line) {
         Ok(item) => Ok(item),
         Err(error) => {

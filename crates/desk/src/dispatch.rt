@@ -23,7 +23,7 @@ use standing::StandingCash;
 use standing::StandingCashBook;
 
 /// Opens the pool of a draft, and runs the rest of the script with it.
-pub fn open<'a>(
+pub(crate) fn open<'a>(
     draft: &Draft,
     opening: Opening,
     lines: Lines<'a>,

@@ -14,7 +14,7 @@ pub struct Output {
 }
 
 impl Output {
-    pub fn new(stdout: Stdout) -> Output {
+    pub(crate) fn new(stdout: Stdout) -> Output {
         Output {
             writer: BufWriter::new(stdout),
             written: Ok(()),
@@ -22,21 +22,21 @@ impl Output {
     }
 
     /// Writes an answer on a line of its own.
-    pub fn answer(&mut self, answer: Answer) {
+    pub(crate) fn answer(&mut self, answer: Answer) {
         if self.written.is_ok() {
             self.written = writeln!(self.writer, "{answer}");
         }
     }
 
     /// Writes text on a line of its own.
-    pub fn say(&mut self, text: &str) {
+    pub(crate) fn say(&mut self, text: &str) {
         if self.written.is_ok() {
             self.written = writeln!(self.writer, "{text}");
         }
     }
 
     /// Writes what is still held, and tells whether all was written.
-    pub fn finish(self) -> io::Result<()> {
+    pub(crate) fn finish(self) -> io::Result<()> {
         let Output {
             mut writer,
             written,

@@ -17,7 +17,7 @@ use script::Item;
 use share::SharingRule;
 
 /// Opens a pool, and runs the rest of a script with it.
-pub fn run<'a, B: Book + Drop, C: Book + Drop, S: SharingRule + Drop>(
+pub(crate) fn run<'a, B: Book + Drop, C: Book + Drop, S: SharingRule + Drop>(
     bonds: B,
     cash: C,
     rule: S,

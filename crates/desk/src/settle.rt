@@ -10,7 +10,7 @@ use script::Fault;
 use script::Item;
 
 /// Settles a script: collects the opening part, and runs the rest with the pool that it opens.
-pub fn settle<'a>(script: &'a [u8], out: &mut Output) -> Result<(), Damage<'a>> {
+pub(crate) fn settle<'a>(script: &'a [u8], out: &mut Output) -> Result<(), Damage<'a>> {
     let mut lines = Lines::new(script);
     let mut draft = Draft::new();
     while let Some(line) = lines.next() {
@@ -32,7 +32,10 @@ pub fn settle<'a>(script: &'a [u8], out: &mut Output) -> Result<(), Damage<'a>> 
 }
 
 /// Runs the rest of a script whose opening was refused.
-pub fn run_without_pool<'a>(mut lines: Lines<'a>, out: &mut Output) -> Result<(), Damage<'a>> {
+pub(crate) fn run_without_pool<'a>(
+    mut lines: Lines<'a>,
+    out: &mut Output,
+) -> Result<(), Damage<'a>> {
     while let Some(line) = lines.next() {
         match read(&lines, line)? {
             None => {}

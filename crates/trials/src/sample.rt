@@ -7,7 +7,7 @@ use tables::BondFigures;
 use terms::Refusal;
 
 /// What a call answered, in numbers: 0 where it was accepted, else the number, the spot and the layer.
-pub fn told<X: Drop>(answer: Result<X, Refusal>) -> (u8, u64, char) {
+pub(crate) fn told<X: Drop>(answer: Result<X, Refusal>) -> (u8, u64, char) {
     match answer {
         Ok(_) => (0, 0, ' '),
         Err(refusal) => (refusal.cause.code(), refusal.spot, refusal.layer.letter()),
@@ -15,7 +15,7 @@ pub fn told<X: Drop>(answer: Result<X, Refusal>) -> (u8, u64, char) {
 }
 
 /// Member 1 may lend, 2 borrow, 3 both, 4 neither; bond 0 comes in units of 1,000 yuan, bond 15 of 1.
-pub fn figures() -> Figures {
+pub(crate) fn figures() -> Figures {
     let nobody = AccountFigures { right: 0, grade: 0 };
     let mut accounts = [nobody; 32];
     accounts[1].right = 1;
@@ -44,7 +44,7 @@ pub fn figures() -> Figures {
 }
 
 /// Member 1 holds 5,000,000 available of bond 0, and 700 pledged; of bond 15 member 3 holds the largest amount and member 2 a little.
-pub fn stock() -> [u64; 1024] {
+pub(crate) fn stock() -> [u64; 1024] {
     let mut amounts = [0; 1024];
     amounts[32] = 5_000_000;
     amounts[33] = 700;
@@ -54,7 +54,7 @@ pub fn stock() -> [u64; 1024] {
 }
 
 /// Members 1 and 2 hold cash, member 4 the largest amount.
-pub fn balances() -> [u64; 32] {
+pub(crate) fn balances() -> [u64; 32] {
     let mut fen = [0; 32];
     fen[1] = 10_000;
     fen[2] = 1;
@@ -62,10 +62,10 @@ pub fn balances() -> [u64; 32] {
     fen
 }
 
-pub fn bonds() -> StandingBonds {
+pub(crate) fn bonds() -> StandingBonds {
     StandingBonds::new(stock())
 }
 
-pub fn cash() -> StandingCash {
+pub(crate) fn cash() -> StandingCash {
     StandingCash::new(balances())
 }
