@@ -1,4 +1,7 @@
 //! The allotment of a loan: each lender's share of the face, by any sharing rule, in whole units of the bond.
+
+#![tactic(auto)]
+
 ghost use Rattle.std.specs.Prelude.{◌≡◌, ℕ, ◌*◌, ◌/◌, ◌%◌, ◌^◌, ◌<◌, slice_index};
 ghost use Rattle.allot.specs.Allotments.{in_units, times_unit, allotted, ExactlyMade};
 

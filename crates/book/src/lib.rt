@@ -1,4 +1,7 @@
 //! A book: a numbered row of places, each holding a whole amount.
+
+#![tactic(auto)]
+
 ghost use Rattle.std.specs.Prelude.{◌≡◌, ℕ, List, length};
 ghost use Rattle.terms.specs.Table.{answered, settled};
 ghost use Rattle.book.specs.Moves.{amount_at, refusal, moved};

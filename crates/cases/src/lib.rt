@@ -1,4 +1,7 @@
 //! Worked cases: a table that is proved, and runs of the parts of the pool on edge values.
+
+#![tactic(auto)]
+
 #[cfg(test)]
 mod answering;
 #[cfg(test)]

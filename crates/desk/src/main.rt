@@ -1,5 +1,8 @@
 //! Settles a day from a script on standard input: an answer to every item, up to the end or to the first line that
 //! cannot be read.
+
+#![tactic(auto)]
+
 mod damage;
 mod dispatch;
 mod output;

@@ -1,4 +1,7 @@
 //! Text as it comes in: its lines, and the numbers that words write.
+
+#![tactic(auto)]
+
 mod lines;
 mod numbers;
 

@@ -1,4 +1,7 @@
 //! What members may lend of a bond, from the bond book, the records and the loans.
+
+#![tactic(auto)]
+
 ghost use Rattle.std.specs.Prelude.{◌≡◌};
 ghost use Rattle.records.specs.Kept.{kept_of, preset_at};
 ghost use Rattle.terms.specs.Table.{first_of, answered};

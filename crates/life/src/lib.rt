@@ -1,4 +1,7 @@
 //! Lives of a pool: one call after another, each with the day that the caller holds.
+
+#![tactic(auto)]
+
 mod steps;
 mod whole;
 

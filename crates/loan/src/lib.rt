@@ -1,4 +1,7 @@
 //! A loan: the row that it is kept as, the loan itself, whose shares total its face, and what is asked of its lenders.
+
+#![tactic(auto)]
+
 mod kept;
 mod question;
 mod shares;

@@ -1,4 +1,7 @@
 //! The moves of one call in one book: from every account into one place, and from one place to every account.
+
+#![tactic(auto)]
+
 mod column;
 mod many;
 

@@ -1,4 +1,7 @@
 //! Netting books: they keep what each place opened with, and the net change of each since.
+
+#![tactic(auto)]
+
 mod netting_bonds;
 mod netting_cash;
 mod netting_row;

@@ -1,4 +1,7 @@
 //! Orders to borrow: what they have to meet by themselves and row by row, and the terms and the pledge that they make.
+
+#![tactic(auto)]
+
 mod rows;
 mod terms_of;
 

@@ -1,4 +1,7 @@
 //! A lending pool over any bond book, any cash book and any sharing rule.
+
+#![tactic(auto)]
+
 mod calls;
 mod days;
 mod opening;

@@ -1,4 +1,7 @@
 //! Everything of a pool that is no book: accounts, bonds, presets and the time, and the calls that touch only these.
+
+#![tactic(auto)]
+
 mod blank;
 mod kept;
 mod opening;

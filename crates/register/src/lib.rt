@@ -1,4 +1,7 @@
 //! The loans of a pool. All the memory that they will ever need is asked for when the pool is opened.
+
+#![tactic(auto)]
+
 mod asking;
 mod keeping;
 

@@ -1,4 +1,7 @@
 //! The items of a script: one line read at a time.
+
+#![tactic(auto)]
+
 mod fault;
 mod item;
 mod parse;

@@ -1,4 +1,7 @@
 //! Sharing rules: how a want is shared between 32 accounts within their limits.
+
+#![tactic(auto)]
+
 ghost use Rattle.std.specs.Prelude.{◌≡◌, ℕ, ◌≤◌, List, length, sum};
 ghost use Rattle.share.specs.Shares.{Shared};
 

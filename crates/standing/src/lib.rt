@@ -1,4 +1,7 @@
 //! The standing book, which keeps the amounts themselves: for bonds and for cash.
+
+#![tactic(auto)]
+
 mod bonds;
 mod cash;
 mod row;

@@ -1,4 +1,7 @@
 //! The rows of a pool's tables, accounts and bonds, read from the figures that a pool is opened with.
+
+#![tactic(auto)]
+
 mod account;
 mod bond;
 mod rows;

@@ -1,4 +1,7 @@
 //! The words that every other crate speaks: refusals, ranges, order windows, good faces and calls.
+
+#![tactic(auto)]
+
 mod call;
 mod face;
 mod order;

@@ -1,4 +1,7 @@
 //! The calls that move available amounts between members, and what a member may lend.
+
+#![tactic(auto)]
+
 mod lending;
 mod moves;
 

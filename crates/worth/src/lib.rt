@@ -1,4 +1,7 @@
 //! What a loan has to be worth: its rows cover it, and no limit of concentration is passed.
+
+#![tactic(auto)]
+
 mod concentration;
 mod cover;
 mod table;
