@@ -11,7 +11,7 @@ pub trait AmountFor<Q> {
 
 /// What the rows come to for what is asked. No number of rows and no amount makes it wrap.
 pub fn total<Q, T: AmountFor<Q>>(rows: &[T], asked: &Q) -> u128
-    ensures sum { result ≡ sum_by (amount_for asked.now) rows.now }
+    ensures sum { result ≡ sum_by (T.amount_for asked.now) rows.now }
     ensures bound { result ≤ 18446744073709551615 * length rows.now }
 {
     let mut sum: u128 = 0;
@@ -24,7 +24,7 @@ pub fn total<Q, T: AmountFor<Q>>(rows: &[T], asked: &Q) -> u128
 /// A sum with one row's amount added.
 fn added<Q, T: AmountFor<Q>>(sum: u128, row: &T, asked: &Q) -> u128
     requires { sum + 18446744073709551615 < 2 ^ 128 }
-    ensures sum { result ≡ sum + amount_for asked.now row.now }
+    ensures sum { result ≡ sum + T.amount_for asked.now row.now }
     ensures bound { result ≤ sum + 18446744073709551615 }
 {
     sum + row.amount_for(asked) as u128

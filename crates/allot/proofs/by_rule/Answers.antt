@@ -10,16 +10,16 @@ returns-then-want-total g c =
     let t = c.total.ensures.sum in
     let w = c.units-want.ensures in
     let few : sum (in_units c.args.unit c.args.lendable.now) < c.args.face / c.args.unit =
-    omega (arith, ap sum c.in-units-limits.ensures) in
+    omega (arith, ap sum c.in_units-limits.ensures) in
     record {
       meant = no_shares (g.R.SharingRule.meaning c.args.rule.now) c.args.unit c.args.lendable.now c.args.face few;
       exact = λ some whole. none_makes c.args.unit c.args.lendable.now c.args.face some few;
     }
 
-pub times-unit-requires : goal.times-unit-requires
-times-unit-requires g c =
+pub times_unit-requires : goal.times_unit-requires
+times_unit-requires g c =
     let t = c.total.ensures.sum in
-    share_below c.args.unit 18446744073709551616 c.args.lendable.now c.in-units-limits.result c.shared.result c.in-units-limits.ensures c.fits-lendable
+    share_below c.args.unit 18446744073709551616 c.args.lendable.now c.in_units-limits.result c.shared.result c.in_units-limits.ensures c.fits-lendable
     (c.shared.ensures.lawful (omega arith)).within
 
 pub returns : goal.returns
@@ -27,7 +27,7 @@ returns g c =
     let m = g.R.SharingRule.meaning c.args.rule.now in
     let t = c.total.ensures.sum in
     let w = c.units-want.ensures in
-    let limits = c.in-units-limits.result in
+    let limits = c.in_units-limits.result in
     let law = c.shared.ensures.lawful (omega arith) in
     let law' : Shared limits (c.args.face / c.args.unit) c.shared.result =
     subst (λ (n : ℕ). Shared limits n c.shared.result) w law
@@ -36,6 +36,6 @@ returns g c =
     let enough : c.args.face / c.args.unit ≤ sum limits = omega arith in
     let count : length c.shared.result ≡ 32 = search rules in
     record {
-      meant = loan_meant m c.args.unit c.args.face c.args.lendable.now limits c.shared.result c.times-unit.result c.in-units-limits.ensures meant c.times-unit.ensures enough;
-      exact = λ some whole. loan_makes m c.args.unit c.args.face c.args.lendable.now limits c.shared.result c.times-unit.result c.in-units-limits.ensures meant c.times-unit.ensures enough whole (count ∙ sym c.told-lendable) law';
+      meant = loan_meant m c.args.unit c.args.face c.args.lendable.now limits c.shared.result c.times_unit.result c.in_units-limits.ensures meant c.times_unit.ensures enough;
+      exact = λ some whole. loan_makes m c.args.unit c.args.face c.args.lendable.now limits c.shared.result c.times_unit.result c.in_units-limits.ensures meant c.times_unit.ensures enough whole (count ∙ sym c.told-lendable) law';
     }

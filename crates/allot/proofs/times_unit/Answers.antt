@@ -11,5 +11,5 @@ loop-i-preserved c = (
 pub returns : goal.returns
 returns c = mapped_all (λ s. s * c.args.unit) c.args.shares.now c.loop-i.faces c.loop-i.i (omega arith) (omega arith) c.loop-i.invariant.1
 
-pub overflow-mul-faces : goal.overflow-mul-faces
-overflow-mul-faces c = omega (arith, c.requires c.loop-i.i)
+pub overflow_mul-faces : goal.overflow_mul-faces
+overflow_mul-faces c = omega (arith, c.requires c.loop-i.i)

@@ -10,7 +10,7 @@ pub loop-account-preserved : goal.loop-account-preserved
 loop-account-preserved g c =
     let a = c.args in (
       length-set _ _ _ ∙ c.loop-account.invariant.0,
-      filled_more (lendable_by (ledger g.B.Book a.bonds.now) (kept_of a.records.now) (loans_of a.loans.now) a.borrower a.bond) c.loop-account.faces c.loop-account.account c.face-to.result (omega arith) c.face-to.ensures c.loop-account.invariant.1,
+      filled_more (lendable_by (ledger g.B.Book a.bonds.now) (kept_of a.records.now) (loans_of a.loans.now) a.borrower a.bond) c.loop-account.faces c.loop-account.account c.face_to.result (omega arith) c.face_to.ensures c.loop-account.invariant.1,
     )
 
 pub returns : goal.returns

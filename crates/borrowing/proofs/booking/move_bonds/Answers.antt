@@ -4,4 +4,4 @@ use Rattle.borrowing.proofs.booking.move_bonds.Goals as goal
 
 pub returns : goal.returns
 returns g c =
-    loan_moved g.B.Book.most (row_of c.args.loan.now) (g.B.Book.amounts c.args.bonds.now) _ _ c.by.result c.available.result c.available-place-target.result c.pledge-rows.ensures c.available-place-target.ensures c.available.ensures c.by.ensures c.gather.ensures
+    loan_moved g.B.Book.most (row_of c.args.loan.now) (g.B.Book.amounts c.args.bonds.now) _ _ c.by.result c.available.result c.available_place-target.result c.pledge_rows.ensures c.available_place-target.ensures c.available.ensures c.by.ensures c.gather.ensures

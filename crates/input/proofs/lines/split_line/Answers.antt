@@ -5,9 +5,9 @@ use Rattle.input.proofs.lines.split_line.Goals as goal
 pub returns : goal.returns
 returns c =
     let bs = c.args.bytes.now in
-    let end = c.line-end-end.result in
+    let end = c.line_end-end.result in
     let left = c.after.ensures in record {
-      line = ap (λ n. take n bs) (sub-zero end) ∙ c.line-end-end.ensures.before;
-      rest = left ∙ c.line-end-end.ensures.after;
+      line = ap (λ n. take n bs) (sub-zero end) ∙ c.line_end-end.ensures.before;
+      rest = left ∙ c.line_end-end.ensures.after;
       shorter = λ some. omega (arith, ap length left, length-drop (end + 1) bs, some);
     }

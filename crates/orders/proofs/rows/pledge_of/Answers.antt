@@ -7,14 +7,14 @@ use Rattle.orders.specs.Rows.{unpledged, outcome}
 use Rattle.orders.proofs.Filling.{row_refused, row_pledged, rows_pledged}
 use Rattle.orders.proofs.rows.pledge_of.Goals as goal
 
-pub returns-in-err-pledge : goal.returns-in-err-pledge
-returns-in-err-pledge g c =
-    let p = err_from_is_err_and c.from-residual.result c.from-residual.ensures.1 in
+pub returns-in_err-pledge : goal.returns-in_err-pledge
+returns-in_err-pledge g c =
+    let p = err_from_is_err_and c.from_residual.result c.from_residual.ensures.1 in
     let a = c.args in
     let front = take a.count a.rows.now in
     let all = outcome (ledger g.B.Book a.bonds.now) (kept_of a.records.now) a.terms.now unpledged 0 front in
     let h : c.loop-i.i < length front = omega (arith, length-take a.count a.rows.now) in
-    rw (p.1, p.2) (row_refused (ledger g.B.Book a.bonds.now) (kept_of a.records.now) a.terms.now front all c.loop-i.pledge c.loop-i.i c.loop-i.invariant.1 _ _ _ h (sym (get_or-take a.count a.rows.now c.loop-i.i (record { bond = 0; face = 0 }) (omega arith))) c.in-err-pledge.ensures)
+    rw (p.1, p.2) (row_refused (ledger g.B.Book a.bonds.now) (kept_of a.records.now) a.terms.now front all c.loop-i.pledge c.loop-i.i c.loop-i.invariant.1 _ _ _ h (sym (get_or-take a.count a.rows.now c.loop-i.i (record { bond = 0; face = 0 }) (omega arith))) c.in_err-pledge.ensures)
 
 pub loop-i-preserved : goal.loop-i-preserved
 loop-i-preserved g c =
@@ -23,7 +23,7 @@ loop-i-preserved g c =
     let all = outcome (ledger g.B.Book a.bonds.now) (kept_of a.records.now) a.terms.now unpledged 0 front in
     let h : c.loop-i.i < length front = omega (arith, length-take a.count a.rows.now) in (
       length-set _ _ _ ∙ c.loop-i.invariant.0,
-      row_pledged (ledger g.B.Book a.bonds.now) (kept_of a.records.now) a.terms.now front all c.loop-i.pledge c.loop-i.i c.loop-i.invariant.1 _ _ _ h (sym (get_or-take a.count a.rows.now c.loop-i.i (record { bond = 0; face = 0 }) (omega arith))) c.in-ok-pledge.ensures,
+      row_pledged (ledger g.B.Book a.bonds.now) (kept_of a.records.now) a.terms.now front all c.loop-i.pledge c.loop-i.i c.loop-i.invariant.1 _ _ _ h (sym (get_or-take a.count a.rows.now c.loop-i.i (record { bond = 0; face = 0 }) (omega arith))) c.in_ok-pledge.ensures,
     )
 
 pub returns-after-loop-i : goal.returns-after-loop-i

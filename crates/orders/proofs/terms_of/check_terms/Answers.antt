@@ -11,26 +11,26 @@ use Rattle.orders.proofs.terms_of.check_terms.Goals as goal
 abbrev due_on : Order → ℕ → Terms
 due_on o due = record { borrower = o.borrower; bond = o.bond; face = o.face; term = o.term; due = due }
 
-pub returns-in-err-check-lent : goal.returns-in-err-check-lent
-returns-in-err-check-lent c =
-    let p = err_from_is_err_and c.from-residual.result c.from-residual.ensures.1 in
+pub returns-in_err-check_lent : goal.returns-in_err-check_lent
+returns-in_err-check_lent c =
+    let p = err_from_is_err_and c.from_residual.result c.from_residual.ensures.1 in
     let k = kept_of c.args.records.now in
     let o = c.args.order.now in
-    rw (p.1, p.2) (refused_before (lent_rules k o) (time_rules k o) tt (terms_of k o) _ c.in-err-check-lent.ensures)
+    rw (p.1, p.2) (refused_before (lent_rules k o) (time_rules k o) tt (terms_of k o) _ c.in_err-check_lent.ensures)
 
-pub returns-in-err-due : goal.returns-in-err-due
-returns-in-err-due c =
-    let p = err_from_is_err_and c.from-residual-in-err-due.result c.from-residual-in-err-due.ensures.1 in
+pub returns-in_err-due : goal.returns-in_err-due
+returns-in_err-due c =
+    let p = err_from_is_err_and c.from_residual-in_err-due.result c.from_residual-in_err-due.ensures.1 in
     let k = kept_of c.args.records.now in
     let o = c.args.order.now in
-    let lent = was_accepted (first_of (lent_rules k o)) tt tt c.in-ok-check-lent.ensures in
-    rw (p.1, p.2) (refused_after (lent_rules k o) (time_rules k o) (k.time.day + o.term) (terms_of k o) _ lent.0 c.in-err-due.ensures.answer)
+    let lent = was_accepted (first_of (lent_rules k o)) tt tt c.in_ok-check_lent.ensures in
+    rw (p.1, p.2) (refused_after (lent_rules k o) (time_rules k o) (k.time.day + o.term) (terms_of k o) _ lent.0 c.in_err-due.ensures.answer)
 
 pub returns : goal.returns
 returns c =
     let k = kept_of c.args.records.now in
     let o = c.args.order.now in
-    let lent = was_accepted (first_of (lent_rules k o)) tt tt c.in-ok-check-lent.ensures in
-    let time = was_accepted (first_of (time_rules k o)) (k.time.day + o.term) c.in-ok-due.due c.in-ok-due.ensures.answer in
+    let lent = was_accepted (first_of (lent_rules k o)) tt tt c.in_ok-check_lent.ensures in
+    let time = was_accepted (first_of (time_rules k o)) (k.time.day + o.term) c.in_ok-due.due c.in_ok-due.ensures.answer in
     let same = ap (λ (due : ℕ). due_on o due) time.1 in
     accepts (first_of (terms_rules k o)) (terms_of k o) _ (first_after (lent_rules k o) (time_rules k o) lent.0 ∙ time.0) same

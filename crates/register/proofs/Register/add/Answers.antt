@@ -7,8 +7,8 @@ use Rattle.register.proofs.Register.add.Goals as goal
 pub invariant-of-self : goal.invariant-of-self
 invariant-of-self c =
     let kept = c.args.self.now in
-    let room : length (vec_items kept.rows) < kept.most = leb-false _ _ (sym c.is_full.ensures ∙ c.if-is-full.false) in
-    let new : is_sound c.to-row.result ≡ true = rw c.to-row.ensures (eq-eqb _ _ c.args.loan.shares.whole) in (
+    let room : length (vec_items kept.rows) < kept.most = leb-false _ _ (sym c.is_full.ensures ∙ c.if-is_full.false) in
+    let new : is_sound c.to_row.result ≡ true = rw c.to_row.ensures (eq-eqb _ _ c.args.loan.shares.whole) in (
       kept.counted,
-      (omega arith, (omega (arith, c.push-reserved.new.self.ok.0), (rw c.push-reserved.ensures.items (sound_push (vec_items kept.rows) c.to-row.result kept.sound new), tt))),
+      (omega arith, (omega (arith, c.push_reserved.new.self.ok.0), (rw c.push_reserved.ensures.items (sound_push (vec_items kept.rows) c.to_row.result kept.sound new), tt))),
     )

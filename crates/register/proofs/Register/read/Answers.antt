@@ -13,4 +13,4 @@ returns c =
     let at : row ≡ loan_at (loans_of kept) c.args.loan =
     get_or_read_under rows c.args.loan (vec_len kept.rows) row no_loan c.index.ensures c.requires kept.rows.ok.0 in
     let sound : is_sound row ≡ true = sound_read rows c.args.loan row (omega arith) kept.sound c.index.ensures in
-    c.from-row.ensures ∙ rw sound (ap Some at)
+    c.from_row.ensures ∙ rw sound (ap Some at)

@@ -14,8 +14,8 @@ invariant-of-self c =
     let i = c.loop-i.i in
     let row = c.index-row.result.now in
     let sound = sound_read rows i row (omega arith) kept.sound c.index-row.ensures in
-    let marked : is_sound c.at-shut.result ≡ true = rw c.at-shut.ensures sound in
-    (kept.counted, (kept.roomy, (few_set rows i kept.most c.at-shut.result kept.few, (sound_set rows i c.at-shut.result kept.sound marked, tt))))
+    let marked : is_sound c.at_shut.result ≡ true = rw c.at_shut.ensures sound in
+    (kept.counted, (kept.roomy, (few_set rows i kept.most c.at_shut.result kept.few, (sound_set rows i c.at_shut.result kept.sound marked, tt))))
 
 pub loop-i-preserved : goal.loop-i-preserved
 loop-i-preserved c =
@@ -23,7 +23,7 @@ loop-i-preserved c =
     let rows = vec_items c.loop-i.self.rows in
     let i = c.loop-i.i in
     let row = c.index-row.result.now in (
-      ap (λ (x : LoanRow). set rows i x) c.at-shut.ensures ∙ map_over_more (shut_on c.args.day) all rows i row (omega arith) c.loop-i.invariant.0 c.index-row.ensures,
+      ap (λ (x : LoanRow). set rows i x) c.at_shut.ensures ∙ map_over_more (shut_on c.args.day) all rows i row (omega arith) c.loop-i.invariant.0 c.index-row.ensures,
       c.loop-i.invariant.1,
       c.loop-i.invariant.2,
     )

@@ -8,28 +8,28 @@ pub returns-then-all-eq0 : goal.returns-then-all-eq0
 returns-then-all-eq0 c =
     let none : sum c.args.weights.now ≡ 0 = omega arith in
     record {
-      parts = c.floor-parts-floors.ensures.parts ∙ floor_parts_none c.args.amount c.args.weights.now none ∙ sym (parted_none c.args.amount c.args.weights.now none);
+      parts = c.floor_parts-floors.ensures.parts ∙ floor_parts_none c.args.amount c.args.weights.now none ∙ sym (parted_none c.args.amount c.args.weights.now none);
       made = λ p. omega arith;
     }
 
 pub loop-i-init : goal.loop-i-init
 loop-i-init c =
-    let floors = c.floor-parts-floors.ensures.parts in (
+    let floors = c.floor_parts-floors.ensures.parts in (
       ap length floors ∙ floor_parts_length c.args.amount c.args.weights.now ∙ c.told-weights,
       topped_start c.args.amount c.args.weights.now c.total-all.result c.total.result c.total-all.ensures.sum (c.total.ensures.sum ∙ ap sum floors),
     )
 
-pub overflow-add-parts : goal.overflow-add-parts
-overflow-add-parts c =
+pub overflow_add-parts : goal.overflow_add-parts
+overflow_add-parts c =
     let here : c.loop-i.i < length c.args.weights.now = omega arith in
-    let floor = floor_is c.args.amount c.total-all.result c.args.weights.now c.loop-i.i c.total-all.ensures.sum here c.floor-parts-floors.result c.floor-parts-floors.ensures.parts in
+    let floor = floor_is c.args.amount c.total-all.result c.args.weights.now c.loop-i.i c.total-all.ensures.sum here c.floor_parts-floors.result c.floor_parts-floors.ensures.parts in
     omega (arith, part_below c.args.amount c.total-all.result c.args.weights.now c.loop-i.i c.total-all.ensures.sum here (omega arith))
 
 pub loop-i-preserved : goal.loop-i-preserved
 loop-i-preserved c =
     let here : c.loop-i.i < length c.args.weights.now = omega arith in
-    let floor = floor_is c.args.amount c.total-all.result c.args.weights.now c.loop-i.i c.total-all.ensures.sum here c.floor-parts-floors.result c.floor-parts-floors.ensures.parts in
-    let more = topped_more c.args.amount c.total-all.result c.loop-i.left c.take-unit.result c.take-unit.new.left (get_or c.floor-parts-floors.result c.loop-i.i 0) c.args.weights.now c.loop-i.parts c.loop-i.i here (omega arith) floor c.take-unit.ensures.unit c.take-unit.ensures.rest in
+    let floor = floor_is c.args.amount c.total-all.result c.args.weights.now c.loop-i.i c.total-all.ensures.sum here c.floor_parts-floors.result c.floor_parts-floors.ensures.parts in
+    let more = topped_more c.args.amount c.total-all.result c.loop-i.left c.take_unit.result c.take_unit.new.left (get_or c.floor_parts-floors.result c.loop-i.i 0) c.args.weights.now c.loop-i.parts c.loop-i.i here (omega arith) floor c.take_unit.ensures.unit c.take_unit.ensures.rest in
     (length-set _ _ _ ∙ c.loop-i.invariant.0, more ∙ c.loop-i.invariant.1)
 
 pub returns : goal.returns

@@ -8,4 +8,4 @@ use Rattle.swapping.proofs.exchange.swap_on.Goals as goal
 pub returns : goal.returns
 returns g c =
     let a = c.args in
-    on_day (ledger g.B.Book a.bonds.now) (kept_of a.records.now) (loans_of a.loans.now) a.day a.loan a.row a.new (row_of c.in-Some.found) c.to-row-kept.result c.swap-in.result (g.B.Book.amounts c.swap-in.new.bonds, loans_of c.swap-in.new.loans) c.if-is-not-open.ensures c.in-Some.ensures c.to-row-kept.ensures c.swap-in.ensures
+    on_day (ledger g.B.Book a.bonds.now) (kept_of a.records.now) (loans_of a.loans.now) a.day a.loan a.row a.new (row_of c.in-Some.found) c.to_row-kept.result c.swap_in.result (g.B.Book.amounts c.swap_in.new.bonds, loans_of c.swap_in.new.loans) c.if-is_not_open.ensures c.in-Some.ensures c.to_row-kept.ensures c.swap_in.ensures

@@ -1,7 +1,7 @@
 use Rattle.std.proofs.Common.{◌≤◌, mul-le-mul_right, arith}
 use Rattle.worth.proofs.concentration.is_above.Goals as goal
 
-pub overflow-mul-result-2 : goal.overflow-mul-result-2
-overflow-mul-result-2 c =
+pub overflow_mul-result-2 : goal.overflow_mul-result-2
+overflow_mul-result-2 c =
     let limit : c.args.limit ≤ 65535 = omega arith in
     omega (arith, mul-le-mul_right c.args.total limit)

@@ -6,7 +6,7 @@ use Rattle.netting.proofs.netting_row.Netting.new.Goals as goal
 pub invariant-of-result : goal.invariant-of-result
 invariant-of-result g c =
     let os = c.args.opening in
-    let e = c.no-changes-net.ensures in
+    let e = c.no_changes-net.ensures in
     let len : length os ≡ g.row.N = search rules in
     let small : (k : ℕ) → k < length os → get_or os k 0 < 2 ^ 64 = λ k h. search rules in
     (len, (ap length e ∙ length-replicate g.row.N (pos 0), (ap length (opened_nets g.row.N os _ len e) ∙ len, (opened_sound g.row.N os _ e small, tt))))
@@ -14,4 +14,4 @@ invariant-of-result g c =
 pub returns : goal.returns
 returns g c =
     let len : length c.args.opening ≡ g.row.N = search rules in
-    opened_nets g.row.N c.args.opening _ len c.no-changes-net.ensures
+    opened_nets g.row.N c.args.opening _ len c.no_changes-net.ensures

@@ -8,4 +8,4 @@ returns c =
     let a = c.args in
     let worth = row_worth a.pricing.now.bonds.now a.pricing.now.multiplier in
     let all = others_and worth a.self.now.rows a.i a.new (omega arith) in
-    in_place worth a.self.now a.i _ a.needed a.later a.new (record { bond = 0; face = 0 }) _ _ (cc) c.try-row.ensures
+    in_place worth a.self.now a.i _ a.needed a.later a.new (record { bond = 0; face = 0 }) _ _ (cc) c.try_row.ensures
