@@ -17,7 +17,7 @@ use std::io::Read;
 fn main(rt: HostRuntime) -> io::Result<()> {
     let mut script = Vec::new(rt.alloc());
     rt.stdin().read_to_end(&mut script)?;
-    let mut out = Output::new(rt.stdout());
+    let mut out = Output::new(rt.alloc(), rt.stdout())?;
     let settled = settle(script.as_slice(), &mut out);
     out.finish()?;
     if let Err(damage) = settled {

@@ -1,5 +1,6 @@
 //! Where the answers go.
 use answers::Answer;
+use std::alloc::Global;
 use std::io;
 use std::io::{BufWriter, Stdout, Write};
 
@@ -11,11 +12,11 @@ pub struct Output {
 }
 
 impl Output {
-    pub(crate) fn new(stdout: Stdout) -> Output {
-        Output {
-            writer: BufWriter::new(stdout),
+    pub(crate) fn new(alloc: Global, stdout: Stdout) -> io::Result<Output> {
+        Ok(Output {
+            writer: BufWriter::new(alloc, stdout)?,
             written: Ok(()),
-        }
+        })
     }
 
     /// Writes an answer on a line of its own.
