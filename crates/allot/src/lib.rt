@@ -15,7 +15,7 @@ pub fn allot<R: SharingRule>(
     lendable: &[u64; 32],
     face: u32,
 ) -> Option<[u64; 32]>
-    ensures meant { result ≡ allotted (meaning rule.now) unit lendable.now face }
+    ensures meant { result ≡ allotted (R.meaning rule.now) unit lendable.now face }
     ensures exact { ExactlyMade unit lendable.now face result }
 {
     by_rule(rule, unit, lendable, face)
@@ -27,7 +27,7 @@ fn by_rule<R: SharingRule>(
     lendable: &[u64; 32],
     face: u32,
 ) -> Option<[u64; 32]>
-    ensures meant { result ≡ allotted (meaning rule.now) unit lendable.now face }
+    ensures meant { result ≡ allotted (R.meaning rule.now) unit lendable.now face }
     ensures exact { ExactlyMade unit lendable.now face result }
 {
     let limits = in_units(unit, lendable);

@@ -83,7 +83,7 @@ impl fmt::Display for Answer {
 }
 
 fn write_refusal<W: fmt::Write>(f: &mut fmt::Formatter<W>, refusal: Refusal) -> fmt::Result
-    ensures { DisplaysOnOk write_str_gives f.old result (Some (refused_line refusal)) f.new }
+    ensures { DisplaysOnOk W.write_str_gives f.old result (Some (refused_line refusal)) f.new }
 {
     let code = refusal.cause.code();
     let name = word(refusal.cause);
@@ -97,7 +97,7 @@ fn write_bond_amount<W: fmt::Write>(
     place: usize,
     amount: u64,
 ) -> fmt::Result
-    ensures { DisplaysOnOk write_str_gives f.old result (Some (bond_line place amount)) f.new }
+    ensures { DisplaysOnOk W.write_str_gives f.old result (Some (bond_line place amount)) f.new }
 {
     let account = place / 32;
     let bond = place / 2 % 16;

@@ -76,7 +76,7 @@ impl Register {
 // What fewer than 2 ^ 16 rows come to.
 fn sum_of<Q, T: AmountFor<Q>>(rows: &[T], asked: &Q) -> u128
     requires { length rows.now < 2 ^ 16 }
-    ensures sum { result ≡ sum_by (amount_for asked.now) rows.now }
+    ensures sum { result ≡ sum_by (T.amount_for asked.now) rows.now }
     ensures small { result < 2 ^ 100 }
 {
     total(rows, asked)

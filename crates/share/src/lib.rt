@@ -26,7 +26,7 @@ pub trait SharingRule {
 
 /// The shares by any rule: they make the want within the limits wherever the limits total it.
 pub fn shared<R: SharingRule>(rule: &R, limits: &[u64; 32], want: u64) -> [u64; 32]
-    ensures meant { result ≡ meaning rule.now limits.now want }
+    ensures meant { result ≡ R.meaning rule.now limits.now want }
     ensures lawful { want ≤ sum limits.now → Shared limits.now want result }
 {
     rule.share(limits, want)

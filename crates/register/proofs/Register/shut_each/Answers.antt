@@ -7,15 +7,20 @@ use Rattle.register.specs.Loans.{Loans}
 use Rattle.register.proofs.Sounding.{sound_read, sound_set, few_set}
 use Rattle.register.proofs.Register.shut_each.Goals as goal
 
-pub invariant-of-self : goal.invariant-of-self
-invariant-of-self c =
+pub invariant_of-self : goal.invariant_of-self
+invariant_of-self c =
     let kept = c.loop-i.self in
     let rows = vec_items kept.rows in
     let i = c.loop-i.i in
     let row = c.index-row.result.now in
     let sound = sound_read rows i row (omega arith) kept.sound c.index-row.ensures in
     let marked : is_sound c.at_shut.result ≡ true = rw c.at_shut.ensures sound in
-    (kept.counted, (kept.roomy, (few_set rows i kept.most c.at_shut.result kept.few, (sound_set rows i c.at_shut.result kept.sound marked, tt))))
+    record {
+      counted = kept.counted;
+      roomy = kept.roomy;
+      few = few_set rows i kept.most c.at_shut.result kept.few;
+      sound = sound_set rows i c.at_shut.result kept.sound marked;
+    }
 
 pub loop-i-preserved : goal.loop-i-preserved
 loop-i-preserved c =

@@ -3,13 +3,18 @@ use lib.ListN.{length-replicate}
 use Rattle.netting.proofs.Nets.{opened_sound, opened_nets}
 use Rattle.netting.proofs.netting_row.Netting.new.Goals as goal
 
-pub invariant-of-result : goal.invariant-of-result
-invariant-of-result g c =
+pub invariant_of-result : goal.invariant_of-result
+invariant_of-result g c =
     let os = c.args.opening in
     let e = c.no_changes-net.ensures in
     let len : length os ≡ g.row.N = search rules in
     let small : (k : ℕ) → k < length os → get_or os k 0 < 2 ^ 64 = λ k h. search rules in
-    (len, (ap length e ∙ length-replicate g.row.N (pos 0), (ap length (opened_nets g.row.N os _ len e) ∙ len, (opened_sound g.row.N os _ e small, tt))))
+    record {
+      opens = len;
+      nets = ap length e ∙ length-replicate g.row.N (pos 0);
+      long = ap length (opened_nets g.row.N os _ len e) ∙ len;
+      sound = opened_sound g.row.N os _ e small;
+    }
 
 pub returns : goal.returns
 returns g c =

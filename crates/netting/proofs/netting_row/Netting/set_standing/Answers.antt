@@ -3,12 +3,17 @@ use Rattle.std.proofs.lemmas.Int.{ints}
 use Rattle.netting.proofs.Nets.{netted_length, set_nets, set_sound}
 use Rattle.netting.proofs.netting_row.Netting.set_standing.Goals as goal
 
-pub invariant-of-self : goal.invariant-of-self
-invariant-of-self g c =
+pub invariant_of-self : goal.invariant_of-self
+invariant_of-self g c =
     let b = c.args.self.now in
     let same = b.opens ∙ sym b.nets in
     let inside : c.args.place < length b.net = omega arith in
-    (b.opens, (simp length-set b.nets, (netted_length b.opening _ (simp length-set same) ∙ b.opens, (set_sound b.opening b.net c.args.place c.args.amount _ inside b.sound (omega (arith, ints)) (omega arith), tt))))
+    record {
+      opens = b.opens;
+      nets = simp length-set b.nets;
+      long = netted_length b.opening _ (simp length-set same) ∙ b.opens;
+      sound = set_sound b.opening b.net c.args.place c.args.amount _ inside b.sound (omega (arith, ints)) (omega arith);
+    }
 
 pub returns : goal.returns
 returns g c =
