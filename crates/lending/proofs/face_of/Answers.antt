@@ -4,6 +4,6 @@ use Rattle.tables.specs.declared.account.Mode.TheVariants.{Preset}
 use Rattle.lending.proofs.face_of.Goals as goal
 
 -- past the last account there is none with the right to lend
-pub returns-in-default : goal.returns-in-default
-returns-in-default g c =
-    rw (get_or_past c.args.records.now.accounts c.args.account (record { right = Neither; grade = 0; mode = Preset }) c.in-default.ensures.lookup.3)
+pub returns-in_default : goal.returns-in_default
+returns-in_default g c =
+    rw (get_or_past c.args.records.now.accounts c.args.account (record { right = Neither; grade = 0; mode = Preset }) c.in_default.ensures.lookup.3)

@@ -3,8 +3,8 @@ use Rattle.std.proofs.lemmas.List.{get_or_past}
 use Rattle.lending.proofs.preset_of.Goals as goal
 
 -- past the last account there is no row
-pub returns-in-default : goal.returns-in-default
-returns-in-default c = rw (get_or_past c.args.records.now.presets c.args.account [] c.in-default.ensures.lookup.3)
+pub returns-in_default : goal.returns-in_default
+returns-in_default c = rw (get_or_past c.args.records.now.presets c.args.account [] c.in_default.ensures.lookup.3)
 
 -- past the last bond there is no preset
 pub returns-in-None : goal.returns-in-None
