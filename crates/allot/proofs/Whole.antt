@@ -1,11 +1,11 @@
 -- Shares in whole units: what they make, and where none make the face.
-use Rattle.std.proofs.Common.{◌≡◌, ℕ, zero, suc, ◌+◌, ◌*◌, ◌/◌, ◌%◌, ◌<◌, ◌≤◌, List, [], ◌∷◌, map, length, get_or, Some, None, sum_by, sum, sym, refl, ap, ◌∙◌, subst, mul-le-mul_right, add-mul, zero-mul, le_of_mul-le-mul_right, arith}
+use Rattle.std.proofs.Common.{◌≡◌, ℕ, zero, suc, ◌+◌, ◌*◌, ◌/◌, ◌%◌, ◌<◌, ◌≤◌, List, [], ◌∷◌, length, get_or, Some, None, sum, sym, refl, ap, ◌∙◌, subst, mul-le-mul_right, add-mul, zero-mul, le_of_mul-le-mul_right, arith}
 use native.Mathlib.Nat.{zero-div}
 use lib.ListN.{length-map}
 use Rattle.std.proofs.lemmas.Nat.{div-add-mod', le-div}
 use Rattle.std.proofs.lemmas.List.Sums.{sum_by-cons}
 use Rattle.share.specs.Shares.{Shared}
-use Rattle.allot.specs.Allotments.{in_units, times_unit, rule_shares, allotted, Makes, NoneMakes}
+use Rattle.allot.specs.Allotments.{in_units, times_unit, allotted, Makes, NoneMakes}
 use Rattle.std.proofs.lemmas.Bool.Decides.{nat_tests}
 
 -- past the end both are 0

@@ -1,9 +1,7 @@
 -- Room for the rows of a pledge, row by row.
-use Rattle.std.proofs.Common.{◌≡◌, ℕ, ◌+◌, ◌<◌, ◌≤◌, Bool, true, false, not, ◌&&◌, ◌||◌, ltb, List, [], ◌∷◌, length, get_or, drop, sym, refl, ap, ◌∙◌, arith}
+use Rattle.std.proofs.Common.{◌≡◌, ℕ, ◌+◌, ◌<◌, ◌≤◌, Bool, true, false, List, length, get_or, drop, sym, ◌∙◌}
 use Rattle.std.proofs.lemmas.List.{at_drop_more, at_drop_all}
 use Rattle.book.specs.Ledgers.{Ledger}
-use Rattle.book.specs.Moves.{room}
-use Rattle.book.specs.Places.{pledged}
 use Rattle.pledge.specs.declared.rows.PledgeRow.{PledgeRow}
 use Rattle.borrowing.specs.Deals.{row_fits, rows_fit}
 

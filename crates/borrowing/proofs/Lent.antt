@@ -1,5 +1,5 @@
 -- An accepted order is booked.
-use Rattle.std.proofs.Common.{◌≡◌, ℕ, Bool, false, cond, List, ◌++◌, length, Some, None, Ok, Err, Option, Result, sym, refl, ap, ◌∙◌, ap₂}
+use Rattle.std.proofs.Common.{◌≡◌, ℕ, false, cond, List, ◌++◌, length, Some, None, Ok, Err, Option, Result, sym, refl, ap, ◌∙◌, ap₂}
 use Rattle.std.proofs.lemmas.Bool.{or_parts}
 use Rattle.std.specs.Option.{ok_or}
 use Rattle.terms.specs.Refusals.{Settles, refuse_order}
@@ -17,7 +17,7 @@ use Rattle.register.specs.Loans.{Loans, is_full, with_loan}
 use Rattle.orders.specs.Rows.{rows_rules, rows_of, unpledged, pledge_of}
 use Rattle.orders.specs.Terms.{terms_rules, terms_of}
 use Rattle.borrowing.specs.Borrows.{order_rules, borrow_rules, loan_of, loan_moves, lent}
-use Rattle.borrowing.specs.Deals.{loans_rules, deal_rules}
+use Rattle.borrowing.specs.Deals.{deal_rules}
 
 -- there is a row for it
 not_full : (bonds : Ledger) (k : Kept) (loans : Loans) (o : Order) → first_of (order_rules bonds k loans o) ≡ None → is_full loans ≡ false

@@ -1,5 +1,5 @@
 -- From the checks of an order to the loan that it makes.
-use Rattle.std.proofs.Common.{◌≡◌, ℕ, ◌<◌, Bool, true, cond, List, ◌++◌, Some, None, Ok, Err, sum, Option, Result, sym, refl, ap, ◌∙◌, subst, subst₂, arith}
+use Rattle.std.proofs.Common.{◌≡◌, ℕ, ◌<◌, true, cond, List, ◌++◌, Some, None, Ok, Err, sum, Option, Result, sym, ap, ◌∙◌, subst, subst₂, arith}
 use Rattle.std.proofs.lemmas.Bool.{eq-eqb}
 use Rattle.std.specs.Option.{option_map, ok_or}
 use Rattle.terms.specs.Faces.{good_face}

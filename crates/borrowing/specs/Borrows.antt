@@ -1,5 +1,5 @@
 -- An order to borrow: its refusals in their order, and what an accepted one makes of the book and the loans.
-use Rattle.std.specs.Prelude.{ℕ, Bool, List, [], ◌∷◌, ◌++◌, length}
+use Rattle.std.specs.Prelude.{ℕ, Bool, List, [], ◌∷◌, ◌++◌}
 use Rattle.terms.specs.Refusals.{refuse_order}
 use Rattle.terms.specs.declared.order.Order.{Order}
 use Rattle.terms.specs.declared.refusal.Refusal.{Refusal}

@@ -9,7 +9,6 @@ use Rattle.pool.specs.State.{State, state_of}
 use Rattle.pool.specs.Rules.{verdict, next}
 use Rattle.pool.specs.Life.{History, began, called, LeadsTo}
 use Rattle.pool.specs.Law.{Law}
-use Rattle.pool.specs.Promises.{Opens}
 use Rattle.pool.specs.declared.days.Day.{Day}
 use Rattle.pool.specs.declared.days.Day.TheVariants as held
 use Rattle.pool.specs.declared.opening.Unopened.{Unopened}

@@ -1,11 +1,10 @@
 -- What an order is known to be once its terms are accepted.
-use Rattle.std.proofs.Common.{◌≡◌, ℕ, ◌<◌, ◌≤◌, Bool, true, false, not, Some, None, refl, arith}
+use Rattle.std.proofs.Common.{◌≡◌, ◌<◌, ◌≤◌, true, None, arith}
 use Rattle.std.proofs.lemmas.Bool.{not-false}
 use Rattle.std.proofs.lemmas.Bool.Decides.{nat_tests}
 use Rattle.terms.specs.Faces.{good_face}
 use Rattle.terms.specs.Table.{first_of}
 use Rattle.terms.specs.declared.order.Order.{Order}
-use Rattle.terms.specs.declared.refusal.Refusal.{Refusal}
 use Rattle.terms.proofs.Rows.{none_holds}
 use Rattle.records.specs.Kept.{Kept, bond_at}
 use Rattle.orders.specs.Terms.{terms_rules}

@@ -1,5 +1,5 @@
 -- The rows that a borrower pledges: what each has to meet, and the pledge that they make.
-use Rattle.std.specs.Prelude.{ℕ, suc, Bool, not, ◌||◌, List, [], ◌∷◌, ◌++◌, take, replicate, Result, ◌==◌, nat_le, nat_lt, slice_index}
+use Rattle.std.specs.Prelude.{ℕ, suc, Bool, not, ◌||◌, List, [], ◌∷◌, ◌++◌, take, Result, ◌==◌, nat_le, nat_lt, slice_index}
 use Rattle.terms.specs.Faces.{good_face}
 use Rattle.terms.specs.Refusals.{refuse, refuse_order}
 use Rattle.terms.specs.Table.{first_of, answered}

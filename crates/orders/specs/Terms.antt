@@ -1,5 +1,5 @@
 -- What an order to borrow has to meet before its rows are looked at.
-use Rattle.std.specs.Prelude.{ℕ, ◌+◌, Bool, not, List, [], ◌∷◌, ◌++◌, ◌==◌, nat_le}
+use Rattle.std.specs.Prelude.{◌+◌, Bool, not, List, [], ◌∷◌, ◌++◌, ◌==◌, nat_le}
 use Rattle.terms.specs.Faces.{good_face}
 use Rattle.terms.specs.Orders.{kind_of, in_window}
 use Rattle.terms.specs.Ranges.{inside, allowed}

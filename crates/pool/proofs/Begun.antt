@@ -1,5 +1,5 @@
 -- An opening that the rules accept begins a life.
-use Rattle.std.proofs.Common.{◌≡◌, ℕ, Some, None, Ok, Err, Option, Result, sym, refl, ap, ◌∙◌, subst, arith}
+use Rattle.std.proofs.Common.{◌≡◌, ℕ, Some, None, Ok, Err, Option, Result, refl, ap, ◌∙◌, subst, arith}
 use Rattle.terms.specs.Table.{first_of, answered, settled}
 use Rattle.terms.specs.Refusals.{Settles, WellNamed}
 use Rattle.records.specs.Kept.{Kept}

@@ -1,5 +1,5 @@
 -- The law of a pool's life, by induction over histories: one clause for each call.
-use Rattle.std.proofs.Common.{◌≡◌, ℕ, ◌+◌, ◌*◌, ◌<◌, ◌≤◌, Bool, true, false, cond, not, ◌&&◌, ◌||◌, eqb, ◌≢◌, List, [], ◌∷◌, length, get_or, Some, None, Option, sym, refl, ap, ◌∙◌, subst, arith}
+use Rattle.std.proofs.Common.{◌≡◌, ℕ, ◌+◌, ◌<◌, ◌≤◌, Bool, true, false, cond, not, ◌&&◌, ◌||◌, eqb, ◌≢◌, List, length, get_or, Some, None, Option, sym, refl, ap, ◌∙◌, subst, arith}
 use Rattle.std.proofs.lemmas.Bool.Decides.{nat_tests}
 use Rattle.terms.specs.Table.{settled}
 use Rattle.terms.specs.declared.refusal.Refusal.{Refusal}
@@ -7,12 +7,12 @@ use Rattle.terms.specs.declared.call.Call.{Call}
 use Rattle.terms.specs.declared.call.Call.TheVariants.{Clock, Quota, Mode, Price, Deliver, Remit, Shut, Next}
 use Rattle.terms.proofs.Rows.{none_holds}
 use Rattle.book.specs.Ledgers.{Ledger, fits}
-use Rattle.book.specs.Moves.{moved, largest_amount}
+use Rattle.book.specs.Moves.{moved}
 use Rattle.book.specs.Places.{available, pledged}
 use Rattle.book.proofs.Moving.{length_moved, moved_at}
 use Rattle.pool.specs.Opening.{Opening, opening_rules, opening_verdict, opening_state}
 use Rattle.pool.specs.State.{State}
-use Rattle.pool.specs.Rules.{rules, accepted, verdict, next}
+use Rattle.pool.specs.Rules.{rules, accepted, verdict}
 use Rattle.pool.specs.Life.{History, began, called, LeadsTo, available_face, pledged_face, holding, gets, gives, if_accepted}
 use Rattle.pool.specs.Law.{HoldingsKept, PledgesKept, BookStands, Law}
 

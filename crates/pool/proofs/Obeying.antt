@@ -7,7 +7,7 @@ use Rattle.terms.specs.declared.call.Call.{Call}
 use Rattle.records.specs.Kept.{Kept}
 use Rattle.pool.specs.State.{State, with_bonds, with_cash, with_kept}
 use Rattle.pool.specs.Rules.{accepted, verdict, next}
-use Rattle.pool.specs.Life.{History, called, LeadsTo}
+use Rattle.pool.specs.Life.{called, LeadsTo}
 use Rattle.pool.specs.Promises.{Goes_on, Obeys, PassesOn, handed, refused_with}
 use Rattle.pool.proofs.Laws.{law}
 use Rattle.pool.proofs.Named.{verdict_named}

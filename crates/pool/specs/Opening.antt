@@ -1,5 +1,5 @@
 -- What a pool is opened with, and when that is refused.
-use Rattle.std.specs.Prelude.{ℕ, Bool, not, ◌||◌, List, [], ◌∷◌, Option}
+use Rattle.std.specs.Prelude.{ℕ, Bool, not, ◌||◌, List, ◌∷◌, Option}
 use Rattle.terms.specs.Table.{first_of}
 use Rattle.terms.specs.Refusals.{refuse_order}
 use Rattle.terms.specs.declared.refusal.Refusal.{Refusal}

@@ -1,5 +1,5 @@
 -- The figures of an opening: which are refused, and the records that a pool opens with.
-use Rattle.std.specs.Prelude.{ℕ, Bool, true, not, ◌&&◌, List, [], ◌∷◌, map, ◌==◌, slice_index_or}
+use Rattle.std.specs.Prelude.{Bool, true, not, ◌&&◌, List, [], ◌∷◌, map, ◌==◌, slice_index_or}
 use Rattle.terms.specs.Ranges.{allowed}
 use Rattle.terms.specs.Refusals.{refuse_order}
 use Rattle.terms.specs.declared.range.Range.TheVariants as range

@@ -1,5 +1,5 @@
 -- The calls that set what members lend and what bonds are worth.
-use Rattle.std.specs.Prelude.{ℕ, Bool, cond, not, List, [], ◌∷◌, set, slice_index_or, slice_set}
+use Rattle.std.specs.Prelude.{ℕ, Bool, cond, not, List, [], ◌∷◌, slice_index_or, slice_set}
 use Rattle.terms.specs.Ranges.{allowed}
 use Rattle.terms.specs.Refusals.{refuse_order}
 use Rattle.terms.specs.declared.range.Range.TheVariants as range

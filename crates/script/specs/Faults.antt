@@ -1,5 +1,5 @@
 -- Lines that may be read, and what is wrong with the others.
-use Rattle.std.specs.Prelude.{◌≡◌, ℕ, ◌-◌, ◌<◌, List, length, IsUtf8, ◌≢◌, slice_index}
+use Rattle.std.specs.Prelude.{ℕ, ◌-◌, ◌<◌, List, length, IsUtf8, ◌≢◌, slice_index}
 use Rattle.input.specs.declared.numbers.NumberFault.{NumberFault}
 use Rattle.input.specs.declared.numbers.NumberFault.TheVariants.{Empty, NotDigits, TooLarge}
 use Rattle.script.specs.declared.fault.Fault.{Fault}

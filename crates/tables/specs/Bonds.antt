@@ -1,5 +1,5 @@
 -- Bonds, as an opening tells them and as the pool keeps them.
-use Rattle.std.specs.Prelude.{ℕ, Bool, not, ◌||◌}
+use Rattle.std.specs.Prelude.{Bool, not, ◌||◌}
 use Rattle.terms.specs.Ranges.{allowed}
 use Rattle.terms.specs.declared.range.Range.TheVariants as range
 use Rattle.tables.specs.declared.bond.Bond.{Bond}

@@ -1,6 +1,5 @@
 -- What a table of rules says: where no rule applies, of the refusal that it gives, and of two tables joined.
-use Rattle.std.proofs.Common.{◌≡◌, ℕ, Bool, true, false, cond, ◌&&◌, List, [], ◌∷◌, ◌++◌, Some, None, Ok, Err, Option, Result, sym, refl, ap, ◌∙◌, arith}
-use Rattle.std.proofs.lemmas.Bool.Decides.{nat_tests}
+use Rattle.std.proofs.Common.{◌≡◌, ℕ, Bool, true, false, cond, List, [], ◌∷◌, ◌++◌, Some, None, Ok, Err, Option, Result, sym, refl, ap, ◌∙◌, arith}
 use Rattle.terms.specs.Table.{first_of, answered}
 use Rattle.terms.specs.Refusals.{well_named, WellNamed, Settles}
 use Rattle.terms.specs.declared.refusal.Refusal.{Refusal}

@@ -1,4 +1,4 @@
-use Rattle.std.proofs.Common.{◌≡◌, ℕ, ◌<◌, cond, eqb, length, get_or}
+use Rattle.std.proofs.Common.{◌≡◌, ℕ, ◌<◌, length, get_or}
 use Rattle.book.specs.Ledgers.{ledger}
 use Rattle.records.specs.Kept.{kept_of}
 use Rattle.register.specs.Loans.{loans_of}

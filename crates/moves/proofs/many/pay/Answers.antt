@@ -1,4 +1,4 @@
-use Rattle.std.proofs.Common.{◌≡◌, ◌<◌, length, refl, arith, rules}
+use Rattle.std.proofs.Common.{◌≡◌, length, refl, arith, rules}
 use Rattle.moves.specs.Many.{given, pay_moves}
 use Rattle.moves.proofs.Turns.{turn, done}
 use Rattle.moves.proofs.many.pay.Goals as goal

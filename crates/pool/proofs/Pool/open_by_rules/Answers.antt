@@ -2,7 +2,7 @@ use Rattle.std.proofs.Common.{refl, ap}
 use Rattle.records.specs.Kept.{Kept, kept_of}
 use Rattle.records.specs.Openings.{opened_records}
 use Rattle.pool.specs.Opening.{opening_of, opening_verdict, opening_state}
-use Rattle.pool.specs.State.{State, with_kept}
+use Rattle.pool.specs.State.{with_kept}
 use Rattle.pool.proofs.Begun.{was_accepted, was_refused}
 use Rattle.pool.proofs.Pool.open_by_rules.Goals as goal
 

@@ -1,4 +1,4 @@
-use Rattle.std.proofs.Common.{sym, arith, rules}
+use Rattle.std.proofs.Common.{arith, rules}
 use Rattle.book.specs.Ledgers.{ledger}
 use Rattle.transfers.proofs.Made.{move_made}
 use Rattle.transfers.proofs.moves.transfer.Goals as goal

@@ -1,4 +1,4 @@
-use Rattle.std.proofs.Common.{◌≡◌, Err, Option, sym, ap, ◌∙◌, arith}
+use Rattle.std.proofs.Common.{Err, Option, sym, ap, ◌∙◌, arith}
 use Rattle.terms.specs.Table.{answered}
 use Rattle.terms.specs.declared.refusal.Refusal.{Refusal}
 use Rattle.book.specs.Ledgers.{ledger}

@@ -1,4 +1,4 @@
-use Rattle.std.proofs.Common.{◌≡◌, ◌<◌, ◌≤◌, length, sym, ◌∙◌, arith, length-set}
+use Rattle.std.proofs.Common.{◌<◌, length, sym, ◌∙◌, arith, length-set}
 use Rattle.std.proofs.lemmas.Int.{ints}
 use Rattle.netting.proofs.Nets.{netted_length, set_nets, set_sound}
 use Rattle.netting.proofs.netting_row.Netting.set_standing.Goals as goal
