@@ -25,9 +25,11 @@ fn drafts(rt: HostRuntime) {
     ];
     assert!(rt; collect(&mut draft, &lines).is_none());
     assert!(rt; draft.stocks[1022] == 7 && draft.stocks[1023] == 9 && draft.stocks[1021] == 0);
-    assert_eq!(rt; draft.bonds[15].unit, 1);
-    assert_eq!(rt; draft.bonds[15].maturity, 7);
-    assert_eq!(rt; draft.bonds[14].maturity, 1);
+    let last = draft.bonds[15];
+    let before = draft.bonds[14];
+    assert_eq!(rt; last.unit, 1);
+    assert_eq!(rt; last.maturity, 7);
+    assert_eq!(rt; before.maturity, 1);
     assert!(rt; matches!(draft.bond_book, BookKind::Netting));
     assert!(rt; matches!(draft.cash_book, BookKind::Standing));
     assert!(rt; matches!(draft.rule, RuleKind::Even));

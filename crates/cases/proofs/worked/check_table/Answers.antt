@@ -1,4 +1,4 @@
-use Rattle.std.proofs.Common.{◌≡◌, ℕ, min, refl, arith}
+use Rattle.std.proofs.Common.{◌≡◌, ℕ, refl, arith}
 use Rattle.sums.specs.Parts.{parted}
 use Rattle.tables.specs.Accounts.{lendable_of}
 use Rattle.tables.specs.declared.account.Right.{Right}
