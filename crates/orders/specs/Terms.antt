@@ -1,11 +1,10 @@
 -- What an order to borrow has to meet before its rows are looked at.
 use Rattle.std.specs.Prelude.{◌+◌, Bool, not, List, [], ◌∷◌, ◌++◌, ◌==◌, nat_le}
 use Rattle.terms.specs.Faces.{good_face}
-use Rattle.terms.specs.Orders.{kind_of, in_window}
-use Rattle.terms.specs.Ranges.{inside, allowed}
+use Rattle.terms.specs.Orders.{is_kind, kind_of, in_window}
+use Rattle.terms.specs.Ranges.{inside}
 use Rattle.terms.specs.Refusals.{refuse_order}
 use Rattle.terms.specs.declared.order.Order.{Order}
-use Rattle.terms.specs.declared.range.Range.TheVariants as range
 use Rattle.terms.specs.declared.refusal.Refusal.{Refusal}
 use Rattle.terms.specs.declared.refusal.Cause.TheVariants as cause
 use Rattle.tables.specs.Accounts.{may_borrow}
@@ -25,11 +24,11 @@ lent_rules k o =
 -- when it comes, for how long, and how many rows back it
 abbrev pub time_rules : Kept → Order → List (Bool × Refusal)
 time_rules k o =
-    (not (allowed range.Kind o.kind), refuse_order cause.Figure 0)
+    (not (is_kind o.kind), refuse_order cause.Figure 0)
     ∷ (not (in_window (kind_of o.kind) k.time.minute), refuse_order cause.Time 0)
     ∷ (not (inside 1 k.limits.longest_term o.term), refuse_order cause.Term 0)
     ∷ (nat_le (bond_at k o.bond).maturity (k.time.day + o.term), refuse_order cause.Maturity 0)
-    ∷ (not (allowed range.PledgeRows o.count), refuse_order cause.Rows 0)
+    ∷ (not (inside 1 4 o.count), refuse_order cause.Rows 0)
     ∷ []
 
 abbrev pub terms_rules : Kept → Order → List (Bool × Refusal)

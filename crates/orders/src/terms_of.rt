@@ -5,7 +5,7 @@ ghost use Rattle.records.specs.Kept.{kept_of};
 ghost use Rattle.orders.specs.Terms.{lent_rules, time_rules, terms_rules, terms_of};
 
 use records::{Records, is_no_bond, is_no_member};
-use terms::{Cause, Order, OrderKind, Range, Refusal, is_good_face};
+use terms::{Cause, Order, OrderKind, Refusal, is_good_face};
 
 /// The terms of a loan.
 #[derive(Clone, Copy)]
@@ -77,7 +77,7 @@ fn check_time(records: &Records, order: &Order) -> Result<u32, Refusal>
     if due >= records.bonds[order.bond as usize].maturity as u64 {
         return Err(Refusal::order(Cause::Maturity, 0));
     }
-    if !Range::PledgeRows.allows(order.count) {
+    if order.count == 0 || order.count > 4 {
         return Err(Refusal::order(Cause::Rows, 0));
     }
     Ok(due as u32)

@@ -33,6 +33,3 @@ allowed range.Minute n = nat_le n 1_439
 allowed range.Amount n = nat_le n 10_000_000_000_000
 -- 0 by presets, 1 the whole available face
 allowed range.Mode n = nat_le n 1
--- 0 a full order, 1 a net order
-allowed range.Kind n = nat_le n 1
-allowed range.PledgeRows n = inside 1 4 n

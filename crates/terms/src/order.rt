@@ -1,8 +1,6 @@
 //! Orders to borrow: what one carries, the two kinds, and the minutes of the day at which each may come.
 ghost use Rattle.std.specs.Prelude.{◌≡◌, if◌then◌else◌, Some, None};
-ghost use Rattle.terms.specs.Orders.{kind_of, in_window};
-ghost use Rattle.terms.specs.Ranges.{allowed};
-ghost use Rattle.terms.specs.declared.range.Range.TheVariants as range;
+ghost use Rattle.terms.specs.Orders.{is_kind, kind_of, in_window};
 
 /// A pledge row as an order tells it; any numbers may stand here.
 #[derive(Clone, Copy)]
@@ -32,7 +30,7 @@ pub enum OrderKind {
 impl OrderKind {
     /// The kind of a number: 0 full, 1 net.
     pub fn from_number(n: u64) -> Option<OrderKind>
-        ensures { result ≡ (if allowed range.Kind n then Some (kind_of n) else None) }
+        ensures { result ≡ (if is_kind n then Some (kind_of n) else None) }
     {
         match n {
             0 => Some(OrderKind::Full),

@@ -20,8 +20,6 @@ pub enum Range {
     Minute,
     Amount,
     Mode,
-    Kind,
-    PledgeRows,
 }
 
 impl Range {
@@ -46,8 +44,6 @@ impl Range {
             Range::Minute => n <= 1_439,
             Range::Amount => n <= 10_000_000_000_000,
             Range::Mode => n <= 1,
-            Range::Kind => n <= 1,
-            Range::PledgeRows => n >= 1 && n <= 4,
         }
     }
 }
