@@ -12,7 +12,7 @@ import sys
 NAMES = dict(pair.split("=") for pair in """
     Accounts-told=AccountsTold All-named=AllNamed Book-stands=BookStands Books-stand=BooksStand
     Clearing-within=ClearingWithin Exactly-made=ExactlyMade Fair-call=FairCall
-    Fair-shares=FairShares Holdings-kept=HoldingsKept Holds-day=HoldsDay Known-bonds=KnownBonds
+    Fair-shares=FairShares Goes_on=GoesOn Holdings-kept=HoldingsKept Holds-day=HoldsDay Known-bonds=KnownBonds
     Leads-to=LeadsTo Loans-kept=LoansKept Loans-told=LoansTold May-lend=MayLend Moves-so=MovesSo
     Moves-well=MovesWell Never-short=NeverShort None-holds=NoneHolds None-makes=NoneMakes
     Order-good=OrderGood Out-quiet=OutQuiet Passes-on=PassesOn Pledges-kept=PledgesKept

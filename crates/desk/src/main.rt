@@ -13,8 +13,9 @@ use output::Output;
 use settle::settle;
 use std::io;
 use std::io::Read;
+use std::process::ExitCode;
 
-fn main(rt: HostRuntime) -> io::Result<()> {
+fn main(rt: HostRuntime) -> io::Result<ExitCode> {
     let mut script = Vec::new(rt.alloc());
     rt.stdin().read_to_end(&mut script)?;
     let mut out = Output::new(rt.alloc(), rt.stdout())?;
@@ -22,7 +23,7 @@ fn main(rt: HostRuntime) -> io::Result<()> {
     out.finish()?;
     if let Err(damage) = settled {
         eprintln!(rt; "{damage}")?;
-        return Err(io::Error::other("damaged script"));
+        return Ok(ExitCode::FAILURE);
     }
-    Ok(())
+    Ok(ExitCode::SUCCESS)
 }

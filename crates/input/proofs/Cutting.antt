@@ -4,16 +4,16 @@ use Rattle.std.proofs.lemmas.List.{take_more, drop_all, at_drop_more, at_drop_al
 use Rattle.input.specs.Lines.{up_to, past}
 
 -- no x before i: the part goes on with what is left
-abbrev pub Goes_on : ℕ → List ℕ → ℕ → Type 0
-Goes_on x bs i = (up_to x bs ≡ take i bs ++ up_to x (drop i bs)) × (past x bs ≡ past x (drop i bs))
+abbrev pub GoesOn : ℕ → List ℕ → ℕ → Type 0
+GoesOn x bs i = (up_to x bs ≡ take i bs ++ up_to x (drop i bs)) × (past x bs ≡ past x (drop i bs))
 
 -- the part ends at i
 pub record Ends (x : ℕ) (bs : List ℕ) (i : ℕ) : Type 0 where
   pub before : take i bs ≡ up_to x bs
   pub after : drop (i + 1) bs ≡ past x bs
 
-module _ (x : ℕ) (bs : List ℕ) (i : ℕ) (so_far : Goes_on x bs i) where
-  pub goes_on : i < length bs → (get_or bs i 0 ≡ x → ⊥) → Goes_on x bs (i + 1)
+module _ (x : ℕ) (bs : List ℕ) (i : ℕ) (so_far : GoesOn x bs i) where
+  pub goes_on : i < length bs → (get_or bs i 0 ≡ x → ⊥) → GoesOn x bs (i + 1)
   goes_on within other =
       let no : eqb (get_or bs i 0) x ≡ false = ne_eqb _ _ other in
       let more : take (i + 1) bs ++ up_to x (drop (i + 1) bs) ≡ take i bs ++ up_to x (drop i bs) =

@@ -8,11 +8,11 @@ use Rattle.records.specs.Kept.{Kept}
 use Rattle.pool.specs.State.{State, with_bonds, with_cash, with_kept}
 use Rattle.pool.specs.Rules.{accepted, verdict, next}
 use Rattle.pool.specs.Life.{called, LeadsTo}
-use Rattle.pool.specs.Promises.{Goes_on, Obeys, PassesOn, handed, refused_with}
+use Rattle.pool.specs.Promises.{GoesOn, Obeys, PassesOn, handed, refused_with}
 use Rattle.pool.proofs.Laws.{law}
 use Rattle.pool.proofs.Named.{verdict_named}
 
-goes_on : (s : State) (day : ℕ) (call : Call) (answer : Option Refusal) (t : State) → answer ≡ verdict s day call → t ≡ next s day call → Goes_on s day call answer t
+goes_on : (s : State) (day : ℕ) (call : Call) (answer : Option Refusal) (t : State) → answer ≡ verdict s day call → t ≡ next s day call → GoesOn s day call answer t
 goes_on s day call answer t e f h l =
     let l' : LeadsTo (called h day call answer) t = (s, (l, e, f)) in (l', law (called h day call answer) t l')
 

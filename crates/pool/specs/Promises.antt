@@ -16,8 +16,8 @@ use Rattle.pool.specs.declared.days.OpenDay.{OpenDay}
 use Rattle.pool.specs.declared.opening.Unopened.{Unopened}
 
 -- one call with its answer: every history that leads to s leads on by it to t, and the law holds there
-abbrev pub Goes_on : State → ℕ → Call → Option Refusal → State → Type 0
-Goes_on s day call answer t =
+abbrev pub GoesOn : State → ℕ → Call → Option Refusal → State → Type 0
+GoesOn s day call answer t =
     (h : History) → LeadsTo h s → LeadsTo (called h day call answer) t × Law (called h day call answer) t
 
 -- a call made with an open day: the answer and the pool after it are as the rules say, a refusal has a number
@@ -26,7 +26,7 @@ pub record Obeys {X : Type 0} (s : State) (day : ℕ) (call : Call) (x : X) (r :
   pub answer : r ≡ answered (verdict s day call) x
   pub after : t ≡ next s day call
   pub named : WellNamed (refused r)
-  pub life : Goes_on s day call (refused r) t
+  pub life : GoesOn s day call (refused r) t
 
 -- the answer of a call that takes a day: refused, that day comes back with the refusal
 abbrev pub handed : {D E : Type 0} → Option Refusal → D → E → Result E (Refusal × D)
@@ -42,7 +42,7 @@ pub record PassesOn {D E : Type 0} (s : State) (day : ℕ) (call : Call) (old : 
   pub answer : r ≡ handed (verdict s day call) old new
   pub after : t ≡ next s day call
   pub named : WellNamed (refused_with r)
-  pub life : Goes_on s day call (refused_with r) t
+  pub life : GoesOn s day call (refused_with r) t
 
 -- an opening: the pool with its first day, or the first refusal with the books and the rule handed back
 abbrev pub Opens : {X Y Z : Type 0} → BookMeaning X → BookMeaning Y → RuleMeaning Z → X → Y → Z → Opening → Result (Pool X Y Z × OpenDay) (Unopened X Y Z) → Type 0
