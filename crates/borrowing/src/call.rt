@@ -17,7 +17,7 @@ use orders::{check_rows, check_terms};
 use records::Records;
 use register::Register;
 use share::SharingRule;
-use terms::{Cause, Order, Refusal};
+use terms::{Cause, Layer, Order, Refusal};
 
 /// Lends a face of a bond to a member against a pledge, and gives the loan's number.
 pub fn borrow<B: Book, S: SharingRule>(
@@ -45,11 +45,11 @@ fn borrow_on<B: Book, S: SharingRule>(
     ensures { Settles (first_of (borrow_rules (ledger B.Book bonds.old) (kept_of records.now) (loans_of loans.old) day order.now)) (length (loans_of loans.old).rows) (B.Book.amounts bonds.old, loans_of loans.old) (lent (ledger B.Book bonds.old) (loans_of loans.old) (loan_of (S.SharingRule.meaning rule.now) (ledger B.Book bonds.old) (kept_of records.now) (loans_of loans.old) order.now)) result (B.Book.amounts bonds.new, loans_of loans.new) }
 {
     if records.is_not_open(day) {
-        return Err(Refusal::order(Cause::Time, 0));
+        return Err(Layer::Order.refuse(Cause::Time, 0));
     }
     let loan = check_order(bonds, rule, records, loans, order)?;
     move_bonds(bonds, &loan);
-    loans.add(loan).ok_or(Refusal::order(Cause::Loans, 0))
+    loans.add(loan).ok_or(Layer::Order.refuse(Cause::Loans, 0))
 }
 
 // The loan that an order makes, or the first refusal.

@@ -18,7 +18,7 @@ use pledge::{Pledge, PledgeRow};
 use records::Records;
 use register::Register;
 use share::SharingRule;
-use terms::{Cause, Refusal};
+use terms::{Cause, Layer, Refusal};
 use worth::{check_row_limits, is_covered, is_lent_above};
 
 // The loan on good terms with good rows, or the first of the pool's own rules that refuses it.
@@ -40,7 +40,7 @@ pub(crate) fn check_deal<B: Book, S: SharingRule>(
     check_worth(bonds, records, loans, terms, pledge)?;
     check_room(bonds, terms, pledge)?;
     let row = begun_row(records, terms, pledge, shares);
-    Loan::from_row(row).ok_or(Refusal::order(Cause::Pool, 0))
+    Loan::from_row(row).ok_or(Layer::Order.refuse(Cause::Pool, 0))
 }
 
 // The row of a loan as it begins.
@@ -71,7 +71,7 @@ fn check_loans(records: &Records, loans: &Register, terms: &Terms) -> Result<(),
     ensures { result ≡ answered (first_of (loans_rules (kept_of records.now) (loans_of loans.now) terms.now)) tt }
 {
     if loans.unclosed(terms.borrower) >= records.limits.most_loans as u128 || loans.is_full() {
-        return Err(Refusal::order(Cause::Loans, 0));
+        return Err(Layer::Order.refuse(Cause::Loans, 0));
     }
     Ok(())
 }
@@ -93,7 +93,7 @@ fn check_pool<B: Book, S: SharingRule>(
     let unit = records.bonds[terms.bond as usize].unit;
     match allot(rule, unit, &lendable, terms.face) {
         Some(shares) => Ok(shares),
-        None => Err(Refusal::order(Cause::Pool, 0)),
+        None => Err(Layer::Order.refuse(Cause::Pool, 0)),
     }
 }
 
@@ -108,7 +108,7 @@ fn check_worth<B: Book>(
     ensures { result ≡ answered (first_of (worth_rules (ledger B.Book bonds.now) (kept_of records.now) (loans_of loans.now) terms.now pledge.now)) tt }
 {
     if !is_covered(records, terms, rate(records.time.r001), pledge) {
-        return Err(Refusal::worth(Cause::Value, 0));
+        return Err(Layer::Worth.refuse(Cause::Value, 0));
     }
     if is_lent_above(
         bonds,
@@ -118,7 +118,7 @@ fn check_worth<B: Book>(
         terms.bond,
         terms.face,
     ) {
-        return Err(Refusal::worth(Cause::Concentration, 0));
+        return Err(Layer::Worth.refuse(Cause::Concentration, 0));
     }
     check_row_limits(bonds, records, loans, terms.borrower, pledge)
 }
@@ -131,7 +131,7 @@ fn check_room<B: Book>(bonds: &B, terms: &Terms, pledge: &Pledge) -> Result<(), 
     if !do_rows_fit(bonds, terms.borrower, &pledge.rows)
         || !has_room(bonds, target, terms.face as u64)
     {
-        return Err(Refusal::bond_book(Cause::Over, terms.borrower as u64));
+        return Err(Layer::BondBook.refuse(Cause::Over, terms.borrower as u64));
     }
     Ok(())
 }

@@ -1,11 +1,11 @@
 //! The answers as they are written.
 use answers::Answer;
 use std::test::Fail;
-use terms::{Cause, Refusal};
+use terms::{Cause, Layer, Refusal};
 
 #[test]
 fn answers(rt: HostRuntime) -> Result<(), Fail> {
-    let short = Refusal::bond_book(Cause::Short, 5);
+    let short = Layer::BondBook.refuse(Cause::Short, 5);
     let (place, account, amount) = (1023, 31, 8);
     let written = [
         (Answer::Accepted, "ok"),

@@ -13,7 +13,7 @@ use book::{Book, available_place, held};
 use records::{Records, is_no_bond, is_no_member};
 use register::Register;
 use tables::lendable;
-use terms::{Cause, Refusal};
+use terms::{Cause, Layer, Refusal};
 
 /// The face of a bond that a member may lend now.
 pub fn lendable_face<B: Book>(
@@ -26,10 +26,10 @@ pub fn lendable_face<B: Book>(
     ensures { result ≡ answered (first_of (lendable_rules account bond)) (lendable_at (ledger B.Book bonds.now) (kept_of records.now) (loans_of loans.now) account bond) }
 {
     if is_no_member(account) {
-        return Err(Refusal::order(Cause::Account, account));
+        return Err(Layer::Order.refuse(Cause::Account, account));
     }
     if is_no_bond(bond) {
-        return Err(Refusal::order(Cause::Bond, 0));
+        return Err(Layer::Order.refuse(Cause::Bond, 0));
     }
     Ok(face_of(bonds, records, loans, account as u8, bond as u8))
 }

@@ -9,7 +9,7 @@ use crate::terms_of::Terms;
 use book::{Book, available_place, held};
 use pledge::{Pledge, PledgeRow};
 use records::{Records, is_no_bond};
-use terms::{Cause, Order, OrderRow, Refusal, is_good_face};
+use terms::{Cause, Layer, Order, OrderRow, Refusal, is_good_face};
 
 /// A row pledged on these terms beside the rows that stand in the pledge, or why it is refused.
 pub fn check_row<B: Book>(
@@ -27,17 +27,17 @@ pub fn check_row<B: Book>(
         || pledge.has_bond(row.bond as u8)
         || !is_good_face(row.face, records.bonds[row.bond as usize].unit)
     {
-        return Err(Refusal::order(Cause::Rows, index));
+        return Err(Layer::Order.refuse(Cause::Rows, index));
     }
     let bond = records.bonds[row.bond as usize];
     if bond.discount == 0 {
-        return Err(Refusal::order(Cause::Eligibility, index));
+        return Err(Layer::Order.refuse(Cause::Eligibility, index));
     }
     if terms.due >= bond.maturity {
-        return Err(Refusal::order(Cause::Maturity, index));
+        return Err(Layer::Order.refuse(Cause::Maturity, index));
     }
     if held(bonds, available_place(terms.borrower, row.bond as u8)) < row.face {
-        return Err(Refusal::bond_book(Cause::Short, index));
+        return Err(Layer::BondBook.refuse(Cause::Short, index));
     }
     Ok(PledgeRow {
         bond: row.bond as u8,

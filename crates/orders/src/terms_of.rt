@@ -5,7 +5,7 @@ ghost use Rattle.records.specs.Kept.{kept_of};
 ghost use Rattle.orders.specs.Terms.{lent_rules, time_rules, terms_rules, terms_of};
 
 use records::{Records, is_no_bond, is_no_member};
-use terms::{Cause, Order, OrderKind, Refusal, is_good_face};
+use terms::{Cause, Layer, Order, OrderKind, Refusal, is_good_face};
 
 /// The terms of a loan.
 #[derive(Clone, Copy)]
@@ -40,20 +40,20 @@ fn check_lent(records: &Records, order: &Order) -> Result<(), Refusal>
     ensures { result ≡ answered (first_of (lent_rules (kept_of records.now) order.now)) tt }
 {
     if is_no_member(order.borrower) {
-        return Err(Refusal::order(Cause::Account, order.borrower));
+        return Err(Layer::Order.refuse(Cause::Account, order.borrower));
     }
     if !records.accounts[order.borrower as usize].right.may_borrow() {
-        return Err(Refusal::order(Cause::Right, order.borrower));
+        return Err(Layer::Order.refuse(Cause::Right, order.borrower));
     }
     if is_no_bond(order.bond) {
-        return Err(Refusal::order(Cause::Bond, 0));
+        return Err(Layer::Order.refuse(Cause::Bond, 0));
     }
     let bond = records.bonds[order.bond as usize];
     if !is_good_face(order.face, bond.unit) {
-        return Err(Refusal::order(Cause::Face, 0));
+        return Err(Layer::Order.refuse(Cause::Face, 0));
     }
     if bond.adjustment == 0 {
-        return Err(Refusal::order(Cause::Eligibility, 0));
+        return Err(Layer::Order.refuse(Cause::Eligibility, 0));
     }
     Ok(())
 }
@@ -65,20 +65,20 @@ fn check_time(records: &Records, order: &Order) -> Result<u32, Refusal>
     ensures short { OnOk result (order.now.term < 256) }
 {
     let Some(kind) = OrderKind::from_number(order.kind) else {
-        return Err(Refusal::order(Cause::Figure, 0));
+        return Err(Layer::Order.refuse(Cause::Figure, 0));
     };
     if !kind.may_come(records.time.minute) {
-        return Err(Refusal::order(Cause::Time, 0));
+        return Err(Layer::Order.refuse(Cause::Time, 0));
     }
     if order.term == 0 || order.term > records.limits.longest_term as u64 {
-        return Err(Refusal::order(Cause::Term, 0));
+        return Err(Layer::Order.refuse(Cause::Term, 0));
     }
     let due = records.time.day as u64 + order.term;
     if due >= records.bonds[order.bond as usize].maturity as u64 {
-        return Err(Refusal::order(Cause::Maturity, 0));
+        return Err(Layer::Order.refuse(Cause::Maturity, 0));
     }
     if order.count == 0 || order.count > 4 {
-        return Err(Refusal::order(Cause::Rows, 0));
+        return Err(Layer::Order.refuse(Cause::Rows, 0));
     }
     Ok(due as u32)
 }

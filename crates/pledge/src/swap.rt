@@ -23,7 +23,7 @@ impl Pledge {
         ensures { Settles (swapped pricing.now.bonds.now pricing.now.multiplier self.old i new needed later) tt self.old (with_row self.old i new) result self.new }
     {
         if i >= self.rows.len() {
-            return Err(Refusal::order(Cause::Stage, 0));
+            return Err(Layer::Order.refuse(Cause::Stage, 0));
         }
         self.swap_row(i, new, pricing, needed, later)
     }

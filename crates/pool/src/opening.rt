@@ -11,7 +11,7 @@ use crate::{OpenDay, Pool};
 use book::{Book, is_fit};
 use records::{Figures, Records};
 use share::SharingRule;
-use terms::{Cause, Refusal};
+use terms::{Cause, Layer, Refusal};
 
 /// The books and the rule of a pool that was not opened, handed back with the refusal.
 #[derive(Drop)]
@@ -31,7 +31,7 @@ fn check_opening<B: Book, C: Book>(
     ensures { kept_in result ≡ answered (first_of (opening_rules (ledger B.Book bonds.now) (ledger C.Book cash.now) figures.now)) (opened_records figures.now) }
 {
     if !is_fit(bonds, 1024) || !is_fit(cash, 32) {
-        return Err(Refusal::order(Cause::Figure, 0));
+        return Err(Layer::Order.refuse(Cause::Figure, 0));
     }
     Records::open(figures)
 }

@@ -7,7 +7,7 @@ ghost use Rattle.records.specs.Openings.{house_without_right, within, figures_ru
 use crate::blank::no_presets;
 use crate::kept::{Limits, Records, Time};
 use tables::{AccountFigures, BondFigures, read_accounts, read_bonds};
-use terms::{Cause, Range, Refusal};
+use terms::{Cause, Layer, Range, Refusal};
 
 /// The figures of an opening. Any numbers may stand here: the opening refuses what is outside its range.
 #[derive(Clone, Copy)]
@@ -49,12 +49,12 @@ impl Records {
         ensures { kept_in result ≡ answered (first_of (figures_rules figures.now)) (opened_records figures.now) }
     {
         if !figures.is_house_without_right() {
-            return Err(Refusal::order(Cause::Figure, 0));
+            return Err(Layer::Order.refuse(Cause::Figure, 0));
         }
         let accounts = read_accounts(figures.accounts)?;
         let bonds = read_bonds(figures.bonds)?;
         if !figures.is_within() {
-            return Err(Refusal::order(Cause::Figure, 0));
+            return Err(Layer::Order.refuse(Cause::Figure, 0));
         }
         Ok(Records {
             accounts,

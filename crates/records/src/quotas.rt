@@ -8,7 +8,7 @@ ghost use Rattle.records.specs.Quotas.{quota_rules, with_preset, mode_rules, wit
 use crate::blank::zeros;
 use crate::kept::Records;
 use tables::Mode;
-use terms::{Cause, Range, Refusal};
+use terms::{Cause, Layer, Range, Refusal};
 
 /// Whether no member has this number: the house, or past the last account.
 pub fn is_no_member(account: u64) -> bool
@@ -30,23 +30,23 @@ impl Records {
         ensures { Settles (first_of (quota_rules (kept_of self.old) day account bond face)) tt (kept_of self.old) (with_preset (kept_of self.old) account bond face) result (kept_of self.new) }
     {
         if self.is_not_open(day) {
-            return Err(Refusal::order(Cause::Time, 0));
+            return Err(Layer::Order.refuse(Cause::Time, 0));
         }
         if is_no_member(account) {
-            return Err(Refusal::order(Cause::Account, account));
+            return Err(Layer::Order.refuse(Cause::Account, account));
         }
         if is_no_bond(bond) {
-            return Err(Refusal::order(Cause::Bond, 0));
+            return Err(Layer::Order.refuse(Cause::Bond, 0));
         }
         let lender = self.accounts[account as usize];
         if !lender.right.may_lend() {
-            return Err(Refusal::order(Cause::Right, account));
+            return Err(Layer::Order.refuse(Cause::Right, account));
         }
         if lender.mode.is_whole() {
-            return Err(Refusal::order(Cause::Stage, 0));
+            return Err(Layer::Order.refuse(Cause::Stage, 0));
         }
         if !Range::Amount.allows(face) {
-            return Err(Refusal::order(Cause::Figure, 0));
+            return Err(Layer::Order.refuse(Cause::Figure, 0));
         }
         self.presets[account as usize][bond as usize] = face;
         Ok(())
@@ -57,16 +57,16 @@ impl Records {
         ensures { Settles (first_of (mode_rules (kept_of self.old) day account mode)) tt (kept_of self.old) (with_mode (kept_of self.old) account mode) result (kept_of self.new) }
     {
         if self.is_not_open(day) {
-            return Err(Refusal::order(Cause::Time, 0));
+            return Err(Layer::Order.refuse(Cause::Time, 0));
         }
         if is_no_member(account) {
-            return Err(Refusal::order(Cause::Account, account));
+            return Err(Layer::Order.refuse(Cause::Account, account));
         }
         if !self.accounts[account as usize].right.may_lend() {
-            return Err(Refusal::order(Cause::Right, account));
+            return Err(Layer::Order.refuse(Cause::Right, account));
         }
         let Some(mode) = Mode::from_number(mode) else {
-            return Err(Refusal::order(Cause::Figure, 0));
+            return Err(Layer::Order.refuse(Cause::Figure, 0));
         };
         self.accounts[account as usize].mode = mode;
         if mode.is_whole() {
@@ -80,13 +80,13 @@ impl Records {
         ensures { Settles (first_of (price_rules (kept_of self.old) day bond price)) tt (kept_of self.old) (with_price (kept_of self.old) bond price) result (kept_of self.new) }
     {
         if self.is_not_open(day) {
-            return Err(Refusal::order(Cause::Time, 0));
+            return Err(Layer::Order.refuse(Cause::Time, 0));
         }
         if is_no_bond(bond) {
-            return Err(Refusal::order(Cause::Bond, 0));
+            return Err(Layer::Order.refuse(Cause::Bond, 0));
         }
         if !Range::Price.allows(price) {
-            return Err(Refusal::order(Cause::Figure, 0));
+            return Err(Layer::Order.refuse(Cause::Figure, 0));
         }
         self.bonds[bond as usize].price = price as u16;
         Ok(())

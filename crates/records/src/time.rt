@@ -6,7 +6,7 @@ ghost use Rattle.records.specs.Kept.{kept_of};
 ghost use Rattle.records.specs.Times.{not_open, not_shut, clock_rules, clocked, shut_rules, closed, next_rules, reopened};
 
 use crate::kept::{Records, Time};
-use terms::{Cause, Range, Refusal};
+use terms::{Cause, Layer, Range, Refusal};
 
 impl Records {
     /// Whether an open day of this number is not this pool's.
@@ -27,10 +27,10 @@ impl Records {
         ensures { Settles (first_of (clock_rules (kept_of self.old) day minute)) tt (kept_of self.old) (clocked (kept_of self.old) minute) result (kept_of self.new) }
     {
         if self.is_not_open(day) {
-            return Err(Refusal::order(Cause::Time, 0));
+            return Err(Layer::Order.refuse(Cause::Time, 0));
         }
         if minute < u64::from(self.time.minute) || !Range::Minute.allows(minute) {
-            return Err(Refusal::order(Cause::Figure, 0));
+            return Err(Layer::Order.refuse(Cause::Figure, 0));
         }
         self.time.minute = minute as u16;
         Ok(())
@@ -41,10 +41,10 @@ impl Records {
         ensures { Settles (first_of (shut_rules (kept_of self.old) day)) tt (kept_of self.old) (closed (kept_of self.old)) result (kept_of self.new) }
     {
         if self.is_not_open(day) {
-            return Err(Refusal::order(Cause::Time, 0));
+            return Err(Layer::Order.refuse(Cause::Time, 0));
         }
         if self.time.minute < 1020 {
-            return Err(Refusal::order(Cause::Time, 0));
+            return Err(Layer::Order.refuse(Cause::Time, 0));
         }
         self.time.opened = false;
         Ok(())
@@ -55,13 +55,13 @@ impl Records {
         ensures { Settles (first_of (next_rules (kept_of self.old) shut day r001)) tt (kept_of self.old) (reopened (kept_of self.old) day r001) result (kept_of self.new) }
     {
         if self.is_not_shut(shut) {
-            return Err(Refusal::order(Cause::Time, 0));
+            return Err(Layer::Order.refuse(Cause::Time, 0));
         }
         if day <= u64::from(self.time.day) || !Range::Day.allows(day) {
-            return Err(Refusal::order(Cause::Figure, 0));
+            return Err(Layer::Order.refuse(Cause::Figure, 0));
         }
         if !Range::R001.allows(r001) {
-            return Err(Refusal::order(Cause::Figure, 0));
+            return Err(Layer::Order.refuse(Cause::Figure, 0));
         }
         self.time = Time {
             day: day as u32,

@@ -9,7 +9,7 @@ ghost use Rattle.register.specs.Loans.{loans_of, no_such_loan, loan_at, lent_fac
 use crate::Register;
 use loan::{Awaited, LentBy, Loan, OutOf, RowsOut, UnclosedOf};
 use sums::total::{AmountFor, total};
-use terms::{Cause, Refusal};
+use terms::{Cause, Layer, Refusal};
 
 impl Register {
     /// The loan of a number, if there is one.
@@ -36,7 +36,7 @@ impl Register {
     {
         match self.find(loan) {
             Some(loan) => Ok(loan.question()),
-            None => Err(Refusal::order(Cause::Loan, 0)),
+            None => Err(Layer::Order.refuse(Cause::Loan, 0)),
         }
     }
 

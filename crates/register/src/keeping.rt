@@ -11,7 +11,7 @@ use crate::Register;
 use loan::Loan;
 use pledge::{PledgeRow, Pricing};
 use std::alloc::{AllocError, Global};
-use terms::{Cause, Refusal};
+use terms::{Cause, Layer, Refusal};
 
 impl Register {
     /// A register with room for so many loans.
@@ -55,7 +55,7 @@ impl Register {
         ensures { Settles (if no_such_loan (loans_of self.old) loan then Some (refuse_order cause.Loan 0) else swapped pricing.now.bonds.now pricing.now.multiplier (loan_at (loans_of self.old) loan).pledge i new needed later) tt (loans_of self.old) (with_pledge (loans_of self.old) loan (with_row (loan_at (loans_of self.old) loan).pledge i new)) result (loans_of self.new) }
     {
         if loan >= self.rows.len() as u64 {
-            return Err(Refusal::order(Cause::Loan, 0));
+            return Err(Layer::Order.refuse(Cause::Loan, 0));
         }
         self.swap_row(loan as usize, i, new, pricing, needed, later)
     }

@@ -15,7 +15,7 @@ use orders::check_row;
 use pledge::{PledgeRow, Pricing};
 use records::Records;
 use register::Register;
-use terms::{Cause, OrderRow, Refusal};
+use terms::{Cause, Layer, OrderRow, Refusal};
 use worth::{multiplier_of, needed};
 
 /// Exchanges a row of a loan's pledge for another.
@@ -46,10 +46,10 @@ fn swap_on<B: Book>(
     ensures { Settles (first_of (swap_rules (ledger B.Book bonds.old) (kept_of records.now) (loans_of loans.old) day loan row new)) tt (B.Book.amounts bonds.old, loans_of loans.old) (exchanged (ledger B.Book bonds.old) (loans_of loans.old) loan row new) result (B.Book.amounts bonds.new, loans_of loans.new) }
 {
     if records.is_not_open(day) {
-        return Err(Refusal::order(Cause::Time, 0));
+        return Err(Layer::Order.refuse(Cause::Time, 0));
     }
     let Some(found) = loans.find(loan) else {
-        return Err(Refusal::order(Cause::Loan, 0));
+        return Err(Layer::Order.refuse(Cause::Loan, 0));
     };
     let kept = found.to_row();
     swap_in(bonds, records, loans, loan, &kept, row, new)

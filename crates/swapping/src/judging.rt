@@ -12,7 +12,7 @@ use orders::Terms;
 use pledge::PledgeRow;
 use records::Records;
 use register::Register;
-use terms::{Cause, Refusal};
+use terms::{Cause, Layer, Refusal};
 use worth::is_row_above;
 
 // The terms of a kept loan.
@@ -45,13 +45,13 @@ pub(crate) fn check_loan(records: &Records, loan: &LoanRow, i: u64) -> Result<()
     ensures used { IfOk result (λ _. i < 4) }
 {
     if loan.is_closed() || row_of(&loan.pledge.rows, i).face == 0 {
-        return Err(Refusal::order(Cause::Stage, 0));
+        return Err(Layer::Order.refuse(Cause::Stage, 0));
     }
     if loan.dues.late {
-        return Err(Refusal::order(Cause::Late, 0));
+        return Err(Layer::Order.refuse(Cause::Late, 0));
     }
     if records.time.day >= loan.dues.due {
-        return Err(Refusal::order(Cause::Time, 0));
+        return Err(Layer::Order.refuse(Cause::Time, 0));
     }
     Ok(())
 }
@@ -70,15 +70,15 @@ pub(crate) fn find_later<B: Book>(
     let old = row_of(&loan.pledge.rows, i);
     let borrower = loan.borrower;
     if is_row_above(bonds, records, loans, borrower, new.bond, new.face) {
-        return Some(Refusal::worth(Cause::Concentration, i));
+        return Some(Layer::Worth.refuse(Cause::Concentration, i));
     }
     if held(bonds, pledged_place(borrower, old.bond)) < old.face as u64 {
-        return Some(Refusal::bond_book(Cause::Short, borrower as u64));
+        return Some(Layer::BondBook.refuse(Cause::Short, borrower as u64));
     }
     if !has_room(bonds, pledged_place(borrower, new.bond), new.face as u64)
         || !has_room(bonds, available_place(borrower, old.bond), old.face as u64)
     {
-        return Some(Refusal::bond_book(Cause::Over, borrower as u64));
+        return Some(Layer::BondBook.refuse(Cause::Over, borrower as u64));
     }
     None
 }

@@ -6,7 +6,7 @@ ghost use Rattle.terms.specs.declared.range.Range.TheVariants as range;
 ghost use Rattle.tables.specs.Accounts.{right_of, mode_of, is_whole, may_lend, may_borrow, lendable_of, bad_account, account_of};
 
 use crate::rows::{ReadFrom, read_rows};
-use terms::{Cause, Range, Refusal};
+use terms::{Cause, Layer, Range, Refusal};
 
 /// What a member may do.
 #[derive(Clone, Copy)]
@@ -123,7 +123,7 @@ pub fn read_accounts(figures: [AccountFigures; 32]) -> Result<[Account; 32], Ref
     };
     match read_rows::<_, Account, 32>(figures, nobody) {
         Ok(accounts) => Ok(accounts),
-        Err(row) => Err(Refusal::order(Cause::Figure, row as u64)),
+        Err(row) => Err(Layer::Order.refuse(Cause::Figure, row as u64)),
     }
 }
 

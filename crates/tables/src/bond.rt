@@ -4,7 +4,7 @@ ghost use Rattle.tables.specs.Rows.{read_table};
 ghost use Rattle.tables.specs.Bonds.{bad_bond, bond_of};
 
 use crate::rows::{ReadFrom, read_rows};
-use terms::{Cause, Range, Refusal};
+use terms::{Cause, Layer, Range, Refusal};
 
 #[derive(Clone, Copy)]
 pub struct Bond {
@@ -82,6 +82,6 @@ pub fn read_bonds(figures: [BondFigures; 16]) -> Result<[Bond; 16], Refusal>
     };
     match read_rows::<_, Bond, 16>(figures, nothing) {
         Ok(bonds) => Ok(bonds),
-        Err(row) => Err(Refusal::order(Cause::Figure, row as u64)),
+        Err(row) => Err(Layer::Order.refuse(Cause::Figure, row as u64)),
     }
 }

@@ -1,5 +1,5 @@
 //! The calls of a pool's life, each with the numbers that it carries. Any number may be sent.
-#[derive(Clone, Copy)]
+#[derive(Clone, Copy, Debug, PartialEq, Eq)]
 pub enum Call {
     Clock {
         minute: u64,

@@ -7,9 +7,11 @@ mod face;
 mod order;
 mod range;
 mod refusal;
+mod unknown;
 
 pub use call::Call;
 pub use face::is_good_face;
 pub use order::{Order, OrderKind, OrderRow};
 pub use range::Range;
 pub use refusal::{Cause, Layer, Refusal};
+pub use unknown::UnknownNumber;

@@ -1,9 +1,11 @@
 //! Orders to borrow: what one carries, the two kinds, and the minutes of the day at which each may come.
-ghost use Rattle.std.specs.Prelude.{◌≡◌, if◌then◌else◌, Some, None};
-ghost use Rattle.terms.specs.Orders.{is_kind, kind_of, in_window};
+ghost use Rattle.std.specs.Prelude.{◌≡◌};
+ghost use Rattle.terms.specs.Orders.{KindRead, in_window};
+
+use crate::unknown::UnknownNumber;
 
 /// A pledge row as an order tells it; any numbers may stand here.
-#[derive(Clone, Copy)]
+#[derive(Clone, Copy, Debug, PartialEq, Eq)]
 pub struct OrderRow {
     pub bond: u64,
     pub face: u64,
@@ -21,24 +23,28 @@ pub struct Order {
     pub rows: [OrderRow; 4],
 }
 
-#[derive(Clone, Copy)]
+#[derive(Clone, Copy, Debug, PartialEq, Eq)]
 pub enum OrderKind {
     Full,
     Net,
 }
 
-impl OrderKind {
-    /// The kind of a number: 0 full, 1 net.
-    pub fn from_number(n: u64) -> Option<OrderKind>
-        ensures { result ≡ (if is_kind n then Some (kind_of n) else None) }
-    {
+/// 0 full, 1 net.
+impl TryFrom<u64> for OrderKind {
+    type Error = UnknownNumber;
+
+    ghost try_from_gives = { KindRead };
+
+    fn try_from(n: u64) -> Result<OrderKind, UnknownNumber> {
         match n {
-            0 => Some(OrderKind::Full),
-            1 => Some(OrderKind::Net),
-            _ => None,
+            0 => Ok(OrderKind::Full),
+            1 => Ok(OrderKind::Net),
+            _ => Err(UnknownNumber(n)),
         }
     }
+}
 
+impl OrderKind {
     /// Whether an order of this kind may come at this minute.
     pub fn may_come(self, minute: u16) -> bool
         ensures { result ≡ in_window self minute }

@@ -1,11 +1,15 @@
 //! A refusal names its cause, the spot that it speaks of, and the layer that found it.
-ghost use Rattle.std.specs.Prelude.{◌≡◌};
+ghost use Rattle.std.specs.Prelude.{◌≡◌, Some};
 ghost use Rattle.terms.specs.Refusals.{number, letter_of, refuse};
+ghost use Rattle.terms.specs.Words.{word_of, refusal_text};
 
-/// Why a call is refused. `code` gives the number that members know it by.
-#[derive(Clone, Copy, Debug)]
+use std::error::Error;
+use std::fmt;
+
+/// Why a call is refused. `code` gives the number that members know it by, and it is displayed as its word.
+#[derive(Clone, Copy, Debug, PartialEq, Eq)]
 pub enum Cause {
-    Account,
+    Account = 1,
     Bond,
     Loan,
     Right,
@@ -32,33 +36,48 @@ impl Cause {
     pub fn code(self) -> u8
         ensures { result ≡ number self }
     {
+        self as u8
+    }
+
+    /// The word of the cause, as members read it.
+    pub fn word(self) -> &'static str
+        ensures { result.now ≡ word_of self }
+    {
         match self {
-            Cause::Account => 1,
-            Cause::Bond => 2,
-            Cause::Loan => 3,
-            Cause::Right => 4,
-            Cause::Face => 5,
-            Cause::Time => 6,
-            Cause::Term => 7,
-            Cause::Eligibility => 8,
-            Cause::Rows => 9,
-            Cause::Maturity => 10,
-            Cause::Loans => 11,
-            Cause::Pool => 12,
-            Cause::Short => 13,
-            Cause::Value => 14,
-            Cause::Concentration => 15,
-            Cause::Stage => 16,
-            Cause::Late => 17,
-            Cause::Lender => 18,
-            Cause::Over => 19,
-            Cause::Figure => 20,
+            Cause::Account => "account",
+            Cause::Bond => "bond",
+            Cause::Loan => "loan",
+            Cause::Right => "right",
+            Cause::Face => "face",
+            Cause::Time => "time",
+            Cause::Term => "term",
+            Cause::Eligibility => "eligibility",
+            Cause::Rows => "rows",
+            Cause::Maturity => "maturity",
+            Cause::Loans => "loans",
+            Cause::Pool => "pool",
+            Cause::Short => "short",
+            Cause::Value => "value",
+            Cause::Concentration => "concentration",
+            Cause::Stage => "stage",
+            Cause::Late => "late",
+            Cause::Lender => "lender",
+            Cause::Over => "over",
+            Cause::Figure => "figure",
         }
     }
 }
 
-/// The part of the pool that found the cause.
-#[derive(Clone, Copy, Debug)]
+impl fmt::Display for Cause {
+    ghost output = { λ cause. Some (word_of cause) };
+
+    fn fmt<W: fmt::Write>(&self, f: &mut fmt::Formatter<W>) -> fmt::Result {
+        f.write_str(self.word())
+    }
+}
+
+/// The part of the pool that found the cause. It is displayed as its letter.
+#[derive(Clone, Copy, Debug, PartialEq, Eq)]
 pub enum Layer {
     BondBook,
     CashBook,
@@ -78,9 +97,17 @@ impl Layer {
             Layer::Order => 'O',
         }
     }
+
+    /// A refusal that this layer found.
+    pub fn refuse(self, cause: Cause, spot: u64) -> Refusal
+        ensures { result ≡ refuse cause spot self }
+    {
+        let layer = self;
+        Refusal { cause, spot, layer }
+    }
 }
 
-#[derive(Clone, Copy, Debug)]
+#[derive(Clone, Copy, Debug, PartialEq, Eq)]
 pub struct Refusal {
     pub cause: Cause,
     /// The account, row or place of a list that the cause speaks of; 0 where there is none.
@@ -88,36 +115,16 @@ pub struct Refusal {
     pub layer: Layer,
 }
 
-impl Refusal {
-    /// A refusal by the order's own terms.
-    pub fn order(cause: Cause, spot: u64) -> Refusal
-        ensures { result ≡ refuse cause spot Layer.Order }
-    {
-        let layer = Layer::Order;
-        Refusal { cause, spot, layer }
-    }
+impl fmt::Display for Refusal {
+    ghost output = { λ refusal. Some (refusal_text refusal) };
 
-    /// A refusal for want of worth.
-    pub fn worth(cause: Cause, spot: u64) -> Refusal
-        ensures { result ≡ refuse cause spot Layer.Worth }
-    {
-        let layer = Layer::Worth;
-        Refusal { cause, spot, layer }
-    }
-
-    /// A refusal by the bond book.
-    pub fn bond_book(cause: Cause, spot: u64) -> Refusal
-        ensures { result ≡ refuse cause spot Layer.BondBook }
-    {
-        let layer = Layer::BondBook;
-        Refusal { cause, spot, layer }
-    }
-
-    /// A refusal by the cash book.
-    pub fn cash_book(cause: Cause, spot: u64) -> Refusal
-        ensures { result ≡ refuse cause spot Layer.CashBook }
-    {
-        let layer = Layer::CashBook;
-        Refusal { cause, spot, layer }
+    fn fmt<W: fmt::Write>(&self, f: &mut fmt::Formatter<W>) -> fmt::Result {
+        let code = self.cause.code();
+        let cause = self.cause;
+        let spot = self.spot;
+        let letter = self.layer.letter();
+        write!(f, "{code} {cause} at {spot} in {letter}")
     }
 }
+
+impl Error for Refusal {}

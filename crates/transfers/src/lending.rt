@@ -8,7 +8,7 @@ ghost use Rattle.transfers.specs.Lending.{lendable_rules, lendable_at};
 use book::{Book, available_place, held};
 use records::{Records, is_no_bond, is_no_member};
 use tables::lendable;
-use terms::{Cause, Refusal};
+use terms::{Cause, Layer, Refusal};
 
 /// The face of a bond that a member may lend now. Nothing is lent yet, so none is taken off its preset.
 pub fn lendable_face<B: Book>(
@@ -20,10 +20,10 @@ pub fn lendable_face<B: Book>(
     ensures { result ≡ answered (first_of (lendable_rules account bond)) (lendable_at (ledger B.Book bonds.now) (kept_of records.now) account bond) }
 {
     if is_no_member(account) {
-        return Err(Refusal::order(Cause::Account, account));
+        return Err(Layer::Order.refuse(Cause::Account, account));
     }
     if is_no_bond(bond) {
-        return Err(Refusal::order(Cause::Bond, 0));
+        return Err(Layer::Order.refuse(Cause::Bond, 0));
     }
     let lender = records.accounts[account as usize];
     let available = held(bonds, available_place(account as u8, bond as u8));

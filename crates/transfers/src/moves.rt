@@ -10,7 +10,7 @@ ghost use Rattle.transfers.specs.Transfers.{move_rules, deliver_rules, remit_rul
 
 use book::{Book, available_place, has_room, held};
 use records::{Records, is_no_bond, is_no_member};
-use terms::{Cause, Range, Refusal, is_good_face};
+use terms::{Cause, Layer, Range, Refusal, is_good_face};
 
 // Moves n between two places where the source holds it and the target has room; first short, then over.
 fn transfer<B: Book>(
@@ -48,24 +48,24 @@ pub fn deliver<B: Book>(
     ensures { Settles (first_of (deliver_rules (ledger B.Book bonds.old) (kept_of records.now) day from to bond face)) tt (B.Book.amounts bonds.old) (moved (B.Book.amounts bonds.old) (available from bond) (available to bond) face) result (B.Book.amounts bonds.new) }
 {
     if records.is_not_open(day) {
-        return Err(Refusal::order(Cause::Time, 0));
+        return Err(Layer::Order.refuse(Cause::Time, 0));
     }
     if is_no_member(from) {
-        return Err(Refusal::order(Cause::Account, from));
+        return Err(Layer::Order.refuse(Cause::Account, from));
     }
     if is_no_member(to) || from == to {
-        return Err(Refusal::order(Cause::Account, to));
+        return Err(Layer::Order.refuse(Cause::Account, to));
     }
     if is_no_bond(bond) {
-        return Err(Refusal::order(Cause::Bond, 0));
+        return Err(Layer::Order.refuse(Cause::Bond, 0));
     }
     if !is_good_face(face, records.bonds[bond as usize].unit) {
-        return Err(Refusal::order(Cause::Face, 0));
+        return Err(Layer::Order.refuse(Cause::Face, 0));
     }
     let source = available_place(from as u8, bond as u8);
     let target = available_place(to as u8, bond as u8);
-    let short = Refusal::bond_book(Cause::Short, from);
-    let over = Refusal::bond_book(Cause::Over, to);
+    let short = Layer::BondBook.refuse(Cause::Short, from);
+    let over = Layer::BondBook.refuse(Cause::Over, to);
     transfer(bonds, source, target, face, short, over)
 }
 
@@ -81,18 +81,18 @@ pub fn remit<C: Book>(
     ensures { Settles (first_of (remit_rules (ledger C.Book cash.old) (kept_of records.now) day from to fen)) tt (C.Book.amounts cash.old) (moved (C.Book.amounts cash.old) from to fen) result (C.Book.amounts cash.new) }
 {
     if records.is_not_open(day) {
-        return Err(Refusal::order(Cause::Time, 0));
+        return Err(Layer::Order.refuse(Cause::Time, 0));
     }
     if is_no_member(from) {
-        return Err(Refusal::order(Cause::Account, from));
+        return Err(Layer::Order.refuse(Cause::Account, from));
     }
     if is_no_member(to) || from == to {
-        return Err(Refusal::order(Cause::Account, to));
+        return Err(Layer::Order.refuse(Cause::Account, to));
     }
     if fen == 0 || !Range::Amount.allows(fen) {
-        return Err(Refusal::order(Cause::Figure, 0));
+        return Err(Layer::Order.refuse(Cause::Figure, 0));
     }
-    let short = Refusal::cash_book(Cause::Short, from);
-    let over = Refusal::cash_book(Cause::Over, to);
+    let short = Layer::CashBook.refuse(Cause::Short, from);
+    let over = Layer::CashBook.refuse(Cause::Over, to);
     transfer(cash, from as usize, to as usize, fen, short, over)
 }

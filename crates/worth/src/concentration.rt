@@ -13,7 +13,7 @@ use pledge::{Pledge, PledgeRow};
 use records::Records;
 use register::Register;
 use sums::total::{Every, total};
-use terms::{Cause, Refusal};
+use terms::{Cause, Layer, Refusal};
 
 // The total of a bond: both places of all accounts.
 fn bond_total<B: Book>(bonds: &B, bond: u8) -> u128
@@ -90,7 +90,7 @@ fn check_each<B: Book>(
 {
     for (i, &row) in rows.iter().enumerate() {
         if is_row_over(bonds, records, loans, borrower, row) {
-            return Err(Refusal::worth(Cause::Concentration, i as u64));
+            return Err(Layer::Worth.refuse(Cause::Concentration, i as u64));
         }
     }
     Ok(())
