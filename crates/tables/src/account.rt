@@ -87,6 +87,8 @@ pub struct Account {
     pub right: Right,
     pub grade: u8,
     pub mode: Mode,
+    /// For each bond the face up to which the account lends by presets; 0 where none is set.
+    pub presets: [u64; 16],
 }
 
 /// An account as an opening tells it; any numbers may stand here.
@@ -101,6 +103,7 @@ impl ReadFrom<AccountFigures> for Account {
 
     ghost meant = { account_of };
 
+    #[tactic(auto, unfolding(crate::specs::Blank::blank))]
     fn read(figures: &AccountFigures) -> Option<Account> {
         let right = Right::try_from(figures.right).ok()?;
         if !Range::Grade.allows(figures.grade) {
@@ -110,6 +113,7 @@ impl ReadFrom<AccountFigures> for Account {
             right,
             grade: figures.grade as u8,
             mode: Mode::Preset,
+            presets: [0; 16],
         })
     }
 }

@@ -1,5 +1,4 @@
 use Rattle.std.proofs.Common.{ℕ, Ok, Err, sym, refl, subst}
-use Rattle.records.specs.Kept.{kept_of}
 use Rattle.terms.specs.declared.call.Call.TheVariants.{Next}
 use Rattle.pool.specs.State.{state_of, with_kept}
 use Rattle.pool.specs.Promises.{PassesOn}
@@ -10,7 +9,7 @@ use Rattle.pool.proofs.Pool.next_in_life.Goals as goal
 pub returns-in-Ok : goal.returns-in-Ok
 returns-in-Ok g c =
     let s = state_of g.B.Book g.C.Book g.S.SharingRule c.args.self.now in
-    let k = kept_of c.next.new.self in
+    let k = c.next.new.self in
     let m = c.in-Ok.ensures in
     let day = next_day s.kept k c.args.shut.number c.args.day c.args.r001 m in
     subst
