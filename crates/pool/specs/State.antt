@@ -24,10 +24,10 @@ state_of b c r p = record {
 
 -- a state with one part changed
 abbrev pub with_bonds : State → List ℕ → State
-with_bonds s xs = record { bonds = record { amounts = xs; most = s.bonds.most }; cash = s.cash; rule = s.rule; kept = s.kept }
+with_bonds s xs = record s { bonds = record s.bonds { amounts = xs } }
 
 abbrev pub with_cash : State → List ℕ → State
-with_cash s xs = record { bonds = s.bonds; cash = record { amounts = xs; most = s.cash.most }; rule = s.rule; kept = s.kept }
+with_cash s xs = record s { cash = record s.cash { amounts = xs } }
 
 abbrev pub with_kept : State → Records → State
-with_kept s k = record { bonds = s.bonds; cash = s.cash; rule = s.rule; kept = k }
+with_kept s k = record s { kept = k }
