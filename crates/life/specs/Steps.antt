@@ -1,5 +1,6 @@
 -- One call of a life. With an open day in hand every call but next is made, with a shut day next alone.
-use Rattle.std.specs.Prelude.{ℕ, Bool, true, false, cond, Some, None, Ok, Err, Option, Result}
+use Rattle.std.specs.Prelude.{ℕ, Bool, true, false, cond, List, ◌++◌, Some, None, Ok, Err, Option, Result, codes}
+use Rattle.terms.specs.Words.{refusal_text}
 use Rattle.terms.specs.declared.refusal.Refusal.{Refusal}
 use Rattle.terms.specs.declared.call.Call.{Call}
 use Rattle.terms.specs.declared.call.Call.TheVariants.{Clock, Quota, Mode, Price, Deliver, Remit, Shut, Next}
@@ -10,6 +11,11 @@ use Rattle.pool.specs.declared.days.Day.TheVariants as held
 use Rattle.life.specs.declared.steps.CallError.{CallError}
 use Rattle.life.specs.declared.steps.CallError.TheVariants.{Refused, NotMade}
 use Rattle.life.specs.declared.steps.Stepped.{Stepped}
+
+-- why a call did nothing, as it is told
+abbrev pub error_text : CallError → List ℕ
+error_text (Refused r) = codes "refused " ++ refusal_text r
+error_text NotMade = codes "not made"
 
 -- what came of a call, by its answer
 abbrev pub outcome_of : Result Unit Refusal → Result Unit CallError

@@ -1,7 +1,7 @@
 //! One call of a life. Whoever holds an open day may make every call but next, whoever holds a shut day next alone.
-ghost use Rattle.std.specs.Prelude.{◌≡◌};
+ghost use Rattle.std.specs.Prelude.{◌≡◌, Some};
 ghost use Rattle.pool.specs.State.{state_of};
-ghost use Rattle.life.specs.Steps.{outcome_of, made, outcome_made, stepped, after_step};
+ghost use Rattle.life.specs.Steps.{error_text, outcome_of, made, outcome_made, stepped, after_step};
 ghost use Rattle.life.specs.declared.steps.CallError.TheVariants.{Refused};
 
 use book::Book;
@@ -20,6 +20,8 @@ pub enum CallError {
 }
 
 impl fmt::Display for CallError {
+    ghost output = { λ error. Some (error_text error) };
+
     fn fmt<W: fmt::Write>(&self, f: &mut fmt::Formatter<W>) -> fmt::Result {
         match self {
             CallError::Refused(refusal) => write!(f, "refused {refusal}"),
