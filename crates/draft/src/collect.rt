@@ -1,7 +1,7 @@
 //! Collects what a pool is to be opened with, line by line.
 ghost use Rattle.std.specs.Prelude.{length, ◌≡◌};
 ghost use Rattle.terms.specs.Table.{first_of, answered, settled};
-ghost use Rattle.draft.specs.Drafts.{every, plan_of, blank_plan, account_faults, bond_faults, part_faults, planned, figures_of};
+ghost use Rattle.draft.specs.Drafts.{every, blank_plan, account_faults, bond_faults, part_faults, planned, figures_of};
 
 use crate::plan::Draft;
 use book::{available_place, pledged_place};
@@ -12,7 +12,7 @@ use tables::{AccountFigures, BondFigures};
 impl Draft {
     /// What stands where no line says otherwise.
     pub fn new() -> Draft
-        ensures { plan_of result ≡ blank_plan }
+        ensures { result ≡ blank_plan }
     {
         let nobody = AccountFigures { right: 0, grade: 0 };
         let nothing = BondFigures {
@@ -39,7 +39,7 @@ impl Draft {
     /// changes nothing.
     pub fn take(&mut self, part: OpeningPart) -> Result<(), Fault>
         ensures answer { result ≡ answered (first_of (part_faults part)) tt }
-        ensures after { plan_of self.new ≡ settled (first_of (part_faults part)) (plan_of self.old) (planned (plan_of self.old) part) }
+        ensures after { self.new ≡ settled (first_of (part_faults part)) self.old (planned self.old part) }
     {
         match part {
             OpeningPart::Books { bonds, cash } => {
@@ -79,7 +79,7 @@ impl Draft {
 
     /// The figures with which the pool is opened.
     pub fn figures(&self, opening: Opening) -> Figures
-        ensures { result ≡ figures_of (plan_of self.now) opening }
+        ensures { result ≡ figures_of self.now opening }
     {
         Figures {
             accounts: self.accounts,
