@@ -40,13 +40,17 @@ blank_plan = record {
   balances = every 32 0;
 }
 
+-- rows are numbered from 0, so row n is missing where there are no more than n
+abbrev pub missing : ℕ → ℕ → Fault → List (Bool × Fault)
+missing count n fault = (leb count n, fault) ∷ []
+
 -- accounts are 0 to 31
 abbrev pub account_faults : ℕ → List (Bool × Fault)
-account_faults n = (leb 32 n, NoAccount n) ∷ []
+account_faults n = missing 32 n (NoAccount n)
 
 -- bonds are 0 to 15
 abbrev pub bond_faults : ℕ → List (Bool × Fault)
-bond_faults n = (leb 16 n, NoBond n) ∷ []
+bond_faults n = missing 16 n (NoBond n)
 
 -- what may be wrong with a line of the opening, the first fault first
 abbrev pub part_faults : OpeningPart → List (Bool × Fault)
