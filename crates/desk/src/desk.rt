@@ -31,11 +31,10 @@ impl<'a, 'o> Desk<'a, 'o> {
                         .take(part)
                         .map_err(|fault| Damage::of_line(line, fault))?;
                 }
-                Item::Open(opening) => return Opener::new(
-                    &draft,
-                    opening,
-                    Desk { items, out },
-                ).open(),
+                Item::Open(opening) => {
+                    let rest = Desk { items, out };
+                    return Opener::new(&draft, opening, rest).open();
+                }
                 item => answer_without_pool(item, out)?,
             }
         }
