@@ -10,7 +10,7 @@ pub record Ledger : Type 0 where
 
 -- the ledger of a book: what its type means by its amounts and its largest
 abbrev pub ledger : {X : Type 0} → Ghosts X → X → Ledger
-ledger b x = record { amounts = b.amounts x; most = b.most }
+ledger b x = record { amounts = b.amounts x; most = b.LARGEST }
 
 -- no amount is above m
 abbrev pub none_above : ℕ → List ℕ → Bool

@@ -22,9 +22,16 @@ refusal most xs from to n =
     ∷ (nat_lt most (slice_index xs to + n), Over)
     ∷ [])
 
+-- what the source and the target of a move hold after it
+abbrev pub source_after : List ℕ → ℕ → ℕ → ℕ
+source_after xs from n = slice_index xs from - n
+
+abbrev pub target_after : List ℕ → ℕ → ℕ → ℕ
+target_after xs to n = slice_index xs to + n
+
 -- the amounts after a move: n less at the source, n more at the target, all other places as they were
 abbrev pub moved : List ℕ → ℕ → ℕ → ℕ → List ℕ
-moved xs from to n = slice_set (slice_set xs from (slice_index xs from - n)) to (slice_index xs to + n)
+moved xs from to n = slice_set (slice_set xs from (source_after xs from n)) to (target_after xs to n)
 
 -- a place is there, and n more in it would not pass the largest amount
 abbrev pub room : ℕ → List ℕ → ℕ → ℕ → Bool

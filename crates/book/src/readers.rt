@@ -9,33 +9,28 @@ use crate::{Book, LARGEST_AMOUNT};
 pub fn held<B: Book>(book: &B, place: usize) -> u64
     ensures { result ≡ slice_index (B.Book.amounts book.now) place }
 {
-    match book.amount(place) {
-        Some(amount) => amount,
-        None => 0,
-    }
+    book.amount(place).unwrap_or(0)
 }
 
 /// Whether a place is there and would hold no more than the largest amount with `n` added.
 pub fn has_room<B: Book>(book: &B, place: usize, n: u64) -> bool
-    ensures { result ≡ room B.Book.most (B.Book.amounts book.now) place n }
+    ensures { result ≡ room B.Book.LARGEST (B.Book.amounts book.now) place n }
 {
-    match book.amount(place) {
-        Some(amount) => is_sum_within(amount, n, B::largest_amount()),
-        None => false,
-    }
+    book.amount(place)
+        .is_some_and(|amount| is_sum_within(amount, n, B::LARGEST))
 }
 
 /// Whether a book has exactly so many places and `LARGEST_AMOUNT` as its largest, and holds nothing above that.
 pub fn is_fit<B: Book>(book: &B, places: usize) -> bool
     ensures { result ≡ fits places (ledger B.Book book.now) }
 {
-    B::place_count() == places
-        && B::largest_amount() == LARGEST_AMOUNT
+    B::PLACES == places
+        && B::LARGEST == LARGEST_AMOUNT
         && has_none_above(book, LARGEST_AMOUNT)
 }
 
 // Whether the sum is at most `most`; the sum itself is never made, since it may not fit.
-fn is_sum_within(amount: u64, n: u64, most: u64) -> bool
+pub(crate) fn is_sum_within(amount: u64, n: u64, most: u64) -> bool
     ensures { result ≡ nat_le (amount + n) most }
 {
     amount <= most && n <= most - amount
@@ -45,10 +40,5 @@ fn is_sum_within(amount: u64, n: u64, most: u64) -> bool
 fn has_none_above<B: Book>(book: &B, most: u64) -> bool
     ensures { result ≡ none_above most (B.Book.amounts book.now) }
 {
-    for place in 0..B::place_count() {
-        if held(book, place) > most {
-            return false;
-        }
-    }
-    true
+    (0..B::PLACES).all(|place| held(book, place) <= most)
 }

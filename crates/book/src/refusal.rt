@@ -1,7 +1,7 @@
 //! Why a book refuses a move.
 
 /// The reasons, in the order in which they are looked at.
-#[derive(Clone, Copy)]
+#[derive(Clone, Copy, Debug, PartialEq, Eq)]
 pub enum MoveRefusal {
     /// One of the two places does not exist, or they are the same place.
     NoPlace,

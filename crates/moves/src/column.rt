@@ -3,6 +3,7 @@ ghost use Rattle.std.specs.Prelude.{◌≡◌, slice_index};
 ghost use Rattle.moves.specs.Columns.{available_column, pledged_column, cash_column, place, column_amounts};
 
 use book::{Book, held};
+use std::array;
 
 /// A run of places, one for each account, a fixed step apart.
 #[derive(Clone, Copy)]
@@ -50,11 +51,7 @@ impl Column {
     pub fn amounts<B: Book>(self, book: &B) -> [u64; 32]
         ensures { result ≡ column_amounts (B.Book.amounts book.now) self }
     {
-        let mut amounts = [0; 32];
-        for account in 0..32 {
-            amounts[account] = self.amount(book, account as u8);
-        }
-        amounts
+        array::from_fn(|account| self.amount(book, account as u8))
     }
 
     // What an account holds in a book.

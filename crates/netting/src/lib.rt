@@ -2,10 +2,7 @@
 
 #![tactic(auto)]
 
-mod netting_bonds;
-mod netting_cash;
-mod netting_row;
+mod entry;
+mod row;
 
-pub use netting_bonds::NettingBonds;
-pub use netting_cash::NettingCash;
-pub use netting_row::Netting;
+pub use row::{Netting, NettingBonds, NettingCash};

@@ -2,7 +2,6 @@
 use Rattle.std.proofs.Common.{◌≡◌, ℕ, Some, None, Ok, Err, Option, Result, refl, ap, ◌∙◌, subst, arith}
 use Rattle.terms.specs.Table.{first_of, answered, settled}
 use Rattle.terms.specs.Refusals.{Settles, WellNamed}
-use Rattle.records.specs.Kept.{Kept}
 use Rattle.records.specs.Times.{next_rules, reopened}
 use Rattle.terms.specs.declared.refusal.Refusal.{Refusal}
 use Rattle.book.specs.declared.Book.{Ghosts as BookMeaning}
@@ -15,21 +14,7 @@ use Rattle.pool.specs.declared.days.OpenDay.{OpenDay}
 use Rattle.pool.specs.declared.opening.Unopened.{Unopened}
 use Rattle.pool.proofs.Laws.{law}
 use Rattle.pool.proofs.Named.{opening_named}
-
--- an answer taken apart
-pub was_accepted : {X : Type 0} (v : Option Refusal) (x y : X) → Ok y ≡ answered v x → (v ≡ None) × (y ≡ x)
-was_accepted None x y e = (refl, cc)
-was_accepted (Some r) x y e = let z : ◌≡◌ {A = ℕ} 0 1 = cc in absurd (omega arith)
-
-pub was_refused : {X : Type 0} (v : Option Refusal) (x : X) (r : Refusal) → Err r ≡ answered v x → v ≡ Some r
-was_refused None x r e = let z : ◌≡◌ {A = ℕ} 0 1 = cc in absurd (omega arith)
-was_refused (Some w) x r e = cc
-
--- a next that was accepted keeps the new day's number
-pub next_day : (k k' : Kept) (shut day r001 : ℕ) → Settles {X = Unit {0}} (first_of (next_rules k shut day r001)) tt k (reopened k day r001) (Ok tt) k' → k'.time.day ≡ day
-next_day k k' shut day r001 m =
-    let v = (was_accepted (first_of (next_rules k shut day r001)) tt tt m.answer).0 in
-    ap (λ (x : Kept). x.time.day) (m.table ∙ ap (λ (o : Option Refusal). settled o k (reopened k day r001)) v)
+use Rattle.records.specs.declared.kept.Records.{Records}
 
 pub begins : {X Y Z : Type 0} (b : BookMeaning X) (c : BookMeaning Y) (m : RuleMeaning Z) (x : X) (y : Y) (z : Z) (o : Opening) (r : Result (Pool X Y Z × OpenDay) (Unopened X Y Z)) → Opens b c m x y z o r → Begins b c m x y z o r
 begins b c m x y z o (Ok p) h = (h, (h.0, h.1), law (began o) _ (h.0, h.1))

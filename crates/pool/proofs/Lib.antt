@@ -1,3 +1,4 @@
+mod Answered
 mod Named
 pub mod Laws
 mod Obeying

@@ -4,13 +4,14 @@ use Rattle.terms.specs.Table.{answered, settled}
 use Rattle.terms.specs.Refusals.{refused, Settles, WellNamed}
 use Rattle.terms.specs.declared.refusal.Refusal.{Refusal}
 use Rattle.terms.specs.declared.call.Call.{Call}
-use Rattle.records.specs.Kept.{Kept}
 use Rattle.pool.specs.State.{State, with_bonds, with_cash, with_kept}
 use Rattle.pool.specs.Rules.{accepted, verdict, next}
 use Rattle.pool.specs.Life.{called, LeadsTo}
-use Rattle.pool.specs.Promises.{GoesOn, Obeys, PassesOn, handed, refused_with}
+use Rattle.pool.specs.Promises.{GoesOn, Obeys, PassesOn, handed}
 use Rattle.pool.proofs.Laws.{law}
 use Rattle.pool.proofs.Named.{verdict_named}
+use Rattle.pool.proofs.Answered.{was_refused}
+use Rattle.records.specs.declared.kept.Records.{Records}
 
 goes_on : (s : State) (day : ℕ) (call : Call) (answer : Option Refusal) (t : State) → answer ≡ verdict s day call → t ≡ next s day call → GoesOn s day call answer t
 goes_on s day call answer t e f h l =
@@ -19,10 +20,6 @@ goes_on s day call answer t e f h l =
 refused_answered : {X : Type 0} (v : Option Refusal) (x : X) → refused (answered v x) ≡ v
 refused_answered None x = refl
 refused_answered (Some r) x = refl
-
-refused_handed : {D E : Type 0} (v : Option Refusal) (old : D) (new : E) → refused_with (handed v old new) ≡ v
-refused_handed None old new = refl
-refused_handed (Some r) old new = refl
 
 obeys : {X : Type 0} (s : State) (day : ℕ) (call : Call) (x : X) (r : Result X Refusal) (t : State) → r ≡ answered (verdict s day call) x → t ≡ next s day call → Obeys s day call x r t
 obeys s day call x r t e f =
@@ -52,26 +49,15 @@ obeys_by_bonds s day call x r ys zs k m = obeys_by s day call x r (with_bonds s)
 pub obeys_by_cash : {X : Type 0} (s : State) (day : ℕ) (call : Call) (x : X) (r : Result X Refusal) (ys zs : List ℕ) → accepted s call ≡ with_cash s ys → Settles (verdict s day call) x s.cash.amounts ys r zs → Obeys s day call x r (with_cash s zs)
 obeys_by_cash s day call x r ys zs k m = obeys_by s day call x r (with_cash s) s.cash.amounts ys zs refl k m
 
-pub obeys_by_records : {X : Type 0} (s : State) (day : ℕ) (call : Call) (x : X) (r : Result X Refusal) (k' k'' : Kept) → accepted s call ≡ with_kept s k' → Settles (verdict s day call) x s.kept k' r k'' → Obeys s day call x r (with_kept s k'')
+pub obeys_by_records : {X : Type 0} (s : State) (day : ℕ) (call : Call) (x : X) (r : Result X Refusal) (k' k'' : Records) → accepted s call ≡ with_kept s k' → Settles (verdict s day call) x s.kept k' r k'' → Obeys s day call x r (with_kept s k'')
 obeys_by_records s day call x r k' k'' k m = obeys_by s day call x r (with_kept s) s.kept k' k'' refl k m
 
--- what a call that takes a day makes of the records' answer
-abbrev pub turn : {X D E : Type 0} → Result X Refusal → D → E → Result E (Refusal × D)
-turn (Ok x) old new = Ok new
-turn (Err r) old new = Err (r, old)
-
-turned : {X D E : Type 0} (v : Option Refusal) (x : X) (old : D) (new : E) (r : Result X Refusal) → r ≡ answered v x → turn r old new ≡ handed v old new
-turned None x old new r e = ap (λ q. turn q old new) e
-turned (Some w) x old new r e = ap (λ q. turn q old new) e
-
-pub passes_on : {X D E : Type 0} (s : State) (day : ℕ) (call : Call) (x : X) (old : D) (new : E) (r : Result X Refusal) (k' k'' : Kept) → accepted s call ≡ with_kept s k' → Settles (verdict s day call) x s.kept k' r k'' → PassesOn s day call old new (turn r old new) (with_kept s k'')
-passes_on s day call x old new r k' k'' k m =
-    let a = turned (verdict s day call) x old new r m.answer in
-    let o = obeys_by_records s day call x r k' k'' k m in
-    let v : refused_with (turn r old new) ≡ verdict s day call = ap refused_with a ∙ refused_handed (verdict s day call) old new in
+-- a refused call hands the day that it took back with the refusal
+pub passed_back : {D E : Type 0} (s : State) (day : ℕ) (call : Call) (old : D) (new : E) (refusal : Refusal) (t : State) → Obeys {X = Unit {0}} s day call tt (Err refusal) t → PassesOn s day call old new (Err (refusal, old)) t
+passed_back s day call old new refusal t o =
     record {
-      answer = a;
+      answer = sym (ap (λ v. handed v old new) (was_refused (verdict s day call) tt refusal o.answer));
       after = o.after;
-      named = subst WellNamed (sym v) (verdict_named s day call);
-      life = goes_on s day call (refused_with (turn r old new)) (with_kept s k'') v o.after;
+      named = o.named;
+      life = o.life;
     }

@@ -3,15 +3,15 @@ use Rattle.std.specs.Prelude.{ℕ, List}
 use Rattle.book.specs.declared.Book.{Ghosts as BookMeaning}
 use Rattle.book.specs.Ledgers.{Ledger, ledger}
 use Rattle.share.specs.declared.SharingRule.{Ghosts as RuleMeaning}
-use Rattle.records.specs.Kept.{Kept, kept_of}
 use Rattle.pool.specs.declared.Pool.{Pool}
+use Rattle.records.specs.declared.kept.Records.{Records}
 
 pub record State : Type 0 where
   pub bonds : Ledger
   pub cash : Ledger
   -- limits and a want, in units, to shares
   pub rule : List ℕ → ℕ → List ℕ
-  pub kept : Kept
+  pub kept : Records
 
 -- what a pool over any books and rule stands for, by what these say that they mean
 abbrev pub state_of : {X Y Z : Type 0} → BookMeaning X → BookMeaning Y → RuleMeaning Z → Pool X Y Z → State
@@ -19,15 +19,15 @@ state_of b c r p = record {
   bonds = ledger b p.bonds;
   cash = ledger c p.cash;
   rule = r.meaning p.rule;
-  kept = kept_of p.records;
+  kept = p.records;
 }
 
 -- a state with one part changed
 abbrev pub with_bonds : State → List ℕ → State
-with_bonds s xs = record { bonds = record { amounts = xs; most = s.bonds.most }; cash = s.cash; rule = s.rule; kept = s.kept }
+with_bonds s xs = record s { bonds = record s.bonds { amounts = xs } }
 
 abbrev pub with_cash : State → List ℕ → State
-with_cash s xs = record { bonds = s.bonds; cash = record { amounts = xs; most = s.cash.most }; rule = s.rule; kept = s.kept }
+with_cash s xs = record s { cash = record s.cash { amounts = xs } }
 
-abbrev pub with_kept : State → Kept → State
-with_kept s k = record { bonds = s.bonds; cash = s.cash; rule = s.rule; kept = k }
+abbrev pub with_kept : State → Records → State
+with_kept s k = record s { kept = k }

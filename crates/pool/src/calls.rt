@@ -12,7 +12,7 @@ impl<B: Book, C: Book, S: SharingRule> Pool<B, C, S> {
     pub fn clock(&mut self, day: &OpenDay, minute: u64) -> Result<(), Refusal>
         ensures { Obeys (state_of B.Book C.Book S.SharingRule self.old) day.now.number (Call.Clock minute) tt result (state_of B.Book C.Book S.SharingRule self.new) }
     {
-        self.clock_in_life(day, minute)
+        self.make(day.number, Call::Clock { minute })
     }
 
     /// Sets the face of a bond up to which a member lends.
@@ -25,21 +25,21 @@ impl<B: Book, C: Book, S: SharingRule> Pool<B, C, S> {
     ) -> Result<(), Refusal>
         ensures { Obeys (state_of B.Book C.Book S.SharingRule self.old) day.now.number (Call.Quota account bond face) tt result (state_of B.Book C.Book S.SharingRule self.new) }
     {
-        self.quota_in_life(day, account, bond, face)
+        self.make(day.number, Call::Quota { account, bond, face })
     }
 
     /// Sets how a member lends: 0 by presets, 1 its whole available face.
     pub fn mode(&mut self, day: &OpenDay, account: u64, mode: u64) -> Result<(), Refusal>
         ensures { Obeys (state_of B.Book C.Book S.SharingRule self.old) day.now.number (Call.Mode account mode) tt result (state_of B.Book C.Book S.SharingRule self.new) }
     {
-        self.mode_in_life(day, account, mode)
+        self.make(day.number, Call::Mode { account, mode })
     }
 
     /// Sets a bond's price, in fen for 100 yuan of face.
     pub fn price(&mut self, day: &OpenDay, bond: u64, price: u64) -> Result<(), Refusal>
         ensures { Obeys (state_of B.Book C.Book S.SharingRule self.old) day.now.number (Call.Price bond price) tt result (state_of B.Book C.Book S.SharingRule self.new) }
     {
-        self.price_in_life(day, bond, price)
+        self.make(day.number, Call::Price { bond, price })
     }
 
     /// Moves a face of a bond from what one member has available to another.
@@ -53,21 +53,24 @@ impl<B: Book, C: Book, S: SharingRule> Pool<B, C, S> {
     ) -> Result<(), Refusal>
         ensures { Obeys (state_of B.Book C.Book S.SharingRule self.old) day.now.number (Call.Deliver from to bond face) tt result (state_of B.Book C.Book S.SharingRule self.new) }
     {
-        self.deliver_in_life(day, from, to, bond, face)
+        self.make(day.number, Call::Deliver { from, to, bond, face })
     }
 
     /// Moves cash, in fen, from one member to another.
     pub fn remit(&mut self, day: &OpenDay, from: u64, to: u64, fen: u64) -> Result<(), Refusal>
         ensures { Obeys (state_of B.Book C.Book S.SharingRule self.old) day.now.number (Call.Remit from to fen) tt result (state_of B.Book C.Book S.SharingRule self.new) }
     {
-        self.remit_in_life(day, from, to, fen)
+        self.make(day.number, Call::Remit { from, to, fen })
     }
 
     /// Ends the day. A refused shut hands the open day back.
     pub fn shut(&mut self, day: OpenDay) -> Result<ShutDay, (Refusal, OpenDay)>
         ensures { PassesOn (state_of B.Book C.Book S.SharingRule self.old) day.number Call.Shut day (record { number = day.number }) result (state_of B.Book C.Book S.SharingRule self.new) }
     {
-        self.shut_in_life(day)
+        match self.make(day.number, Call::Shut) {
+            Ok(()) => Ok(ShutDay { number: day.number }),
+            Err(refusal) => Err((refusal, day)),
+        }
     }
 
     /// Turns a shut day into the next day, at minute 0. A refused next hands the shut day back.
@@ -79,79 +82,42 @@ impl<B: Book, C: Book, S: SharingRule> Pool<B, C, S> {
     ) -> Result<OpenDay, (Refusal, ShutDay)>
         ensures { PassesOn (state_of B.Book C.Book S.SharingRule self.old) shut.number (Call.Next day r001) shut (record { number = day }) result (state_of B.Book C.Book S.SharingRule self.new) }
     {
-        self.next_in_life(shut, day, r001)
+        self.next_on(shut, day, r001)
     }
 }
 
-// The calls as the records and the transfers make them.
 impl<B: Book, C: Book, S: SharingRule> Pool<B, C, S> {
-    fn clock_in_life(&mut self, day: &OpenDay, minute: u64) -> Result<(), Refusal>
-        ensures { Obeys (state_of B.Book C.Book S.SharingRule self.old) day.now.number (Call.Clock minute) tt result (state_of B.Book C.Book S.SharingRule self.new) }
+    // Any call, made with a day of that number, as the records and the transfers make it.
+    fn make(&mut self, today: u32, call: Call) -> Result<(), Refusal>
+        ensures { Obeys (state_of B.Book C.Book S.SharingRule self.old) today call tt result (state_of B.Book C.Book S.SharingRule self.new) }
     {
-        self.records.clock(day.number, minute)
-    }
-
-    fn quota_in_life(
-        &mut self,
-        day: &OpenDay,
-        account: u64,
-        bond: u64,
-        face: u64,
-    ) -> Result<(), Refusal>
-        ensures { Obeys (state_of B.Book C.Book S.SharingRule self.old) day.now.number (Call.Quota account bond face) tt result (state_of B.Book C.Book S.SharingRule self.new) }
-    {
-        self.records.quota(day.number, account, bond, face)
-    }
-
-    fn mode_in_life(&mut self, day: &OpenDay, account: u64, mode: u64) -> Result<(), Refusal>
-        ensures { Obeys (state_of B.Book C.Book S.SharingRule self.old) day.now.number (Call.Mode account mode) tt result (state_of B.Book C.Book S.SharingRule self.new) }
-    {
-        self.records.mode(day.number, account, mode)
-    }
-
-    fn price_in_life(&mut self, day: &OpenDay, bond: u64, price: u64) -> Result<(), Refusal>
-        ensures { Obeys (state_of B.Book C.Book S.SharingRule self.old) day.now.number (Call.Price bond price) tt result (state_of B.Book C.Book S.SharingRule self.new) }
-    {
-        self.records.price(day.number, bond, price)
-    }
-
-    fn deliver_in_life(
-        &mut self,
-        day: &OpenDay,
-        from: u64,
-        to: u64,
-        bond: u64,
-        face: u64,
-    ) -> Result<(), Refusal>
-        ensures { Obeys (state_of B.Book C.Book S.SharingRule self.old) day.now.number (Call.Deliver from to bond face) tt result (state_of B.Book C.Book S.SharingRule self.new) }
-    {
-        transfers::deliver(
-            &mut self.bonds,
-            &self.records,
-            day.number,
-            from,
-            to,
-            bond,
-            face,
-        )
-    }
-
-    fn remit_in_life(&mut self, day: &OpenDay, from: u64, to: u64, fen: u64) -> Result<(), Refusal>
-        ensures { Obeys (state_of B.Book C.Book S.SharingRule self.old) day.now.number (Call.Remit from to fen) tt result (state_of B.Book C.Book S.SharingRule self.new) }
-    {
-        transfers::remit(&mut self.cash, &self.records, day.number, from, to, fen)
-    }
-
-    fn shut_in_life(&mut self, day: OpenDay) -> Result<ShutDay, (Refusal, OpenDay)>
-        ensures { PassesOn (state_of B.Book C.Book S.SharingRule self.old) day.number Call.Shut day (record { number = day.number }) result (state_of B.Book C.Book S.SharingRule self.new) }
-    {
-        match self.records.shut(day.number) {
-            Ok(()) => Ok(ShutDay { number: day.number }),
-            Err(refusal) => Err((refusal, day)),
+        match call {
+            Call::Clock { minute } => self.records.clock(today, minute),
+            Call::Quota {
+                account,
+                bond,
+                face,
+            } => self.records.quota(today, account, bond, face),
+            Call::Mode { account, mode } => self.records.mode(today, account, mode),
+            Call::Price { bond, price } => self.records.price(today, bond, price),
+            Call::Deliver {
+                from,
+                to,
+                bond,
+                face,
+            } => {
+                transfers::deliver(&mut self.bonds, &self.records, today, from, to, bond, face)
+            }
+            Call::Remit { from, to, fen } => {
+                transfers::remit(&mut self.cash, &self.records, today, from, to, fen)
+            }
+            Call::Shut => self.records.shut(today),
+            Call::Next { day, r001 } => self.records.next(today, day, r001),
         }
     }
 
-    fn next_in_life(
+    // The proof of a next that passes a refusal on stands in a file of its own.
+    fn next_on(
         &mut self,
         shut: ShutDay,
         day: u64,
@@ -159,7 +125,7 @@ impl<B: Book, C: Book, S: SharingRule> Pool<B, C, S> {
     ) -> Result<OpenDay, (Refusal, ShutDay)>
         ensures { PassesOn (state_of B.Book C.Book S.SharingRule self.old) shut.number (Call.Next day r001) shut (record { number = day }) result (state_of B.Book C.Book S.SharingRule self.new) }
     {
-        match self.records.next(shut.number, day, r001) {
+        match self.make(shut.number, Call::Next { day, r001 }) {
             Ok(()) => Ok(OpenDay {
                 number: self.records.time.day,
             }),

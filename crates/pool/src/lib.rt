@@ -14,6 +14,7 @@ use records::Records;
 use share::SharingRule;
 
 /// A pool: its two books, its rule and its records. Only its own calls touch them.
+/// Clauses see it by `state_of`: a model of it would have to hold the rule's meaning, and a value that holds a function has no code.
 #[derive(Drop)]
 pub struct Pool<B: Book, C: Book, S: SharingRule> {
     bonds: B,

@@ -2,7 +2,6 @@
 ghost use Rattle.std.specs.Prelude.{◌≡◌};
 ghost use Rattle.terms.specs.Table.{first_of, answered};
 ghost use Rattle.book.specs.Ledgers.{ledger};
-ghost use Rattle.records.specs.Kept.{kept_in};
 ghost use Rattle.records.specs.Openings.{opened_records};
 ghost use Rattle.pool.specs.Opening.{opening_of, opening_rules};
 ghost use Rattle.pool.specs.Promises.{Opens, Begins};
@@ -28,7 +27,7 @@ fn check_opening<B: Book, C: Book>(
     cash: &C,
     figures: &Figures,
 ) -> Result<Records, Refusal>
-    ensures { kept_in result ≡ answered (first_of (opening_rules (ledger B.Book bonds.now) (ledger C.Book cash.now) figures.now)) (opened_records figures.now) }
+    ensures { result ≡ answered (first_of (opening_rules (ledger B.Book bonds.now) (ledger C.Book cash.now) figures.now)) (opened_records figures.now) }
 {
     if !is_fit(bonds, 1024) || !is_fit(cash, 32) {
         return Err(Layer::Order.refuse(Cause::Figure, 0));

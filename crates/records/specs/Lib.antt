@@ -1,4 +1,3 @@
-pub mod Blank
 pub mod Kept
 pub mod Openings
 pub mod Times

@@ -8,9 +8,8 @@ use Rattle.terms.specs.declared.refusal.Cause.TheVariants as cause
 use Rattle.tables.specs.Rows.{first_bad, has_bad}
 use Rattle.tables.specs.Accounts.{bad_account, account_of}
 use Rattle.tables.specs.Bonds.{bad_bond, bond_of}
-use Rattle.records.specs.Blank.{blank_rows}
-use Rattle.records.specs.Kept.{Kept}
 use Rattle.records.specs.declared.opening.Figures.{Figures}
+use Rattle.records.specs.declared.kept.Records.{Records}
 
 -- the house may neither lend nor borrow
 abbrev pub house_without_right : Figures → Bool
@@ -35,11 +34,10 @@ figures_rules f =
     ∷ []
 
 -- the first day is open at minute 0; every account lends by presets, and none is set
-abbrev pub opened_records : Figures → Kept
+abbrev pub opened_records : Figures → Records
 opened_records f = record {
   accounts = map account_of f.accounts;
   bonds = map bond_of f.bonds;
-  presets = blank_rows 32;
   time = record { day = f.day; opened = true; minute = 0; r001 = f.r001 };
   limits = record { longest_term = f.longest_term; most_loans = f.most_loans; loan_rows = f.loan_rows };
 }

@@ -5,42 +5,35 @@ use Rattle.terms.specs.Refusals.{refuse_order}
 use Rattle.terms.specs.declared.range.Range.TheVariants as range
 use Rattle.terms.specs.declared.refusal.Refusal.{Refusal}
 use Rattle.terms.specs.declared.refusal.Cause.TheVariants as cause
-use Rattle.records.specs.Kept.{Kept}
-use Rattle.records.specs.declared.kept.Time.{Time}
+use Rattle.records.specs.declared.kept.Records.{Records}
 
 -- an open day that is not this pool's
-abbrev pub not_open : Kept → ℕ → Bool
+abbrev pub not_open : Records → ℕ → Bool
 not_open k day = not k.time.opened || not (k.time.day == day)
 
 -- a shut day that is not this pool's
-abbrev pub not_shut : Kept → ℕ → Bool
+abbrev pub not_shut : Records → ℕ → Bool
 not_shut k day = k.time.opened || not (k.time.day == day)
 
--- the records at another time
-abbrev pub at_time : Kept → Time → Kept
-at_time k t = record { accounts = k.accounts; bonds = k.bonds; presets = k.presets; time = t; limits = k.limits }
-
-abbrev pub clock_rules : Kept → ℕ → ℕ → List (Bool × Refusal)
+abbrev pub clock_rules : Records → ℕ → ℕ → List (Bool × Refusal)
 clock_rules k day minute =
     (not_open k day, refuse_order cause.Time 0)
     ∷ (nat_lt minute k.time.minute || not (allowed range.Minute minute), refuse_order cause.Figure 0)
     ∷ []
 
-abbrev pub clocked : Kept → ℕ → Kept
-clocked k minute =
-    at_time k (record { day = k.time.day; opened = k.time.opened; minute = minute; r001 = k.time.r001 })
+abbrev pub clocked : Records → ℕ → Records
+clocked k minute = record k { time = record k.time { minute = minute } }
 
-abbrev pub shut_rules : Kept → ℕ → List (Bool × Refusal)
+abbrev pub shut_rules : Records → ℕ → List (Bool × Refusal)
 shut_rules k day =
     (not_open k day, refuse_order cause.Time 0)
     ∷ (nat_lt k.time.minute 1020, refuse_order cause.Time 0)
     ∷ []
 
-abbrev pub closed : Kept → Kept
-closed k =
-    at_time k (record { day = k.time.day; opened = false; minute = k.time.minute; r001 = k.time.r001 })
+abbrev pub closed : Records → Records
+closed k = record k { time = record k.time { opened = false } }
 
-abbrev pub next_rules : Kept → ℕ → ℕ → ℕ → List (Bool × Refusal)
+abbrev pub next_rules : Records → ℕ → ℕ → ℕ → List (Bool × Refusal)
 next_rules k shut day r001 =
     (not_shut k shut, refuse_order cause.Time 0)
     ∷ (nat_le day k.time.day || not (allowed range.Day day), refuse_order cause.Figure 0)
@@ -48,5 +41,5 @@ next_rules k shut day r001 =
     ∷ []
 
 -- the next day is open at minute 0
-abbrev pub reopened : Kept → ℕ → ℕ → Kept
-reopened k day r001 = at_time k (record { day = day; opened = true; minute = 0; r001 = r001 })
+abbrev pub reopened : Records → ℕ → ℕ → Records
+reopened k day r001 = record k { time = record { day = day; opened = true; minute = 0; r001 = r001 } }

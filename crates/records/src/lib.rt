@@ -2,7 +2,6 @@
 
 #![tactic(auto)]
 
-mod blank;
 mod kept;
 mod opening;
 mod quotas;

@@ -1,12 +1,10 @@
 //! What a pool is opened with besides its books and its rule, and the records that it then keeps.
 ghost use Rattle.std.specs.Prelude.{◌≡◌};
 ghost use Rattle.terms.specs.Table.{first_of, answered};
-ghost use Rattle.records.specs.Kept.{kept_in};
 ghost use Rattle.records.specs.Openings.{house_without_right, within, figures_rules, opened_records};
 
-use crate::blank::no_presets;
 use crate::kept::{Limits, Records, Time};
-use tables::{AccountFigures, BondFigures, read_accounts, read_bonds};
+use tables::{AccountFigures, BondFigures, read_table};
 use terms::{Cause, Layer, Range, Refusal};
 
 /// The figures of an opening. Any numbers may stand here: the opening refuses what is outside its range.
@@ -46,20 +44,19 @@ impl Figures {
 impl Records {
     /// The records of a pool that opens with these figures, or the first figure outside its range.
     pub fn open(figures: &Figures) -> Result<Records, Refusal>
-        ensures { kept_in result ≡ answered (first_of (figures_rules figures.now)) (opened_records figures.now) }
+        ensures { result ≡ answered (first_of (figures_rules figures.now)) (opened_records figures.now) }
     {
         if !figures.is_house_without_right() {
             return Err(Layer::Order.refuse(Cause::Figure, 0));
         }
-        let accounts = read_accounts(figures.accounts)?;
-        let bonds = read_bonds(figures.bonds)?;
+        let accounts = read_table(&figures.accounts)?;
+        let bonds = read_table(&figures.bonds)?;
         if !figures.is_within() {
             return Err(Layer::Order.refuse(Cause::Figure, 0));
         }
         Ok(Records {
             accounts,
             bonds,
-            presets: no_presets::<32>(),
             time: Time {
                 day: figures.day as u32,
                 opened: true,

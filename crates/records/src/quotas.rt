@@ -2,10 +2,9 @@
 ghost use Rattle.std.specs.Prelude.{◌≡◌};
 ghost use Rattle.terms.specs.Table.{first_of};
 ghost use Rattle.terms.specs.Refusals.{Settles};
-ghost use Rattle.records.specs.Kept.{kept_of, no_member, no_bond};
+ghost use Rattle.records.specs.Kept.{no_member, no_bond};
 ghost use Rattle.records.specs.Quotas.{quota_rules, with_preset, mode_rules, with_mode, price_rules, with_price};
 
-use crate::blank::zeros;
 use crate::kept::Records;
 use tables::Mode;
 use terms::{Cause, Layer, Range, Refusal};
@@ -27,7 +26,7 @@ pub fn is_no_bond(bond: u64) -> bool
 impl Records {
     /// Sets the face of a bond up to which a member lends.
     pub fn quota(&mut self, day: u32, account: u64, bond: u64, face: u64) -> Result<(), Refusal>
-        ensures { Settles (first_of (quota_rules (kept_of self.old) day account bond face)) tt (kept_of self.old) (with_preset (kept_of self.old) account bond face) result (kept_of self.new) }
+        ensures { Settles (first_of (quota_rules self.old day account bond face)) tt self.old (with_preset self.old account bond face) result self.new }
     {
         if self.is_not_open(day) {
             return Err(Layer::Order.refuse(Cause::Time, 0));
@@ -48,13 +47,14 @@ impl Records {
         if !Range::Amount.allows(face) {
             return Err(Layer::Order.refuse(Cause::Figure, 0));
         }
-        self.presets[account as usize][bond as usize] = face;
+        self.accounts[account as usize].presets[bond as usize] = face;
         Ok(())
     }
 
     /// Sets how a member lends; the whole available face deletes its presets.
+    #[tactic(auto, unfolding(tables::specs::Blank::blank))]
     pub fn mode(&mut self, day: u32, account: u64, mode: u64) -> Result<(), Refusal>
-        ensures { Settles (first_of (mode_rules (kept_of self.old) day account mode)) tt (kept_of self.old) (with_mode (kept_of self.old) account mode) result (kept_of self.new) }
+        ensures { Settles (first_of (mode_rules self.old day account mode)) tt self.old (with_mode self.old account mode) result self.new }
     {
         if self.is_not_open(day) {
             return Err(Layer::Order.refuse(Cause::Time, 0));
@@ -65,19 +65,18 @@ impl Records {
         if !self.accounts[account as usize].right.may_lend() {
             return Err(Layer::Order.refuse(Cause::Right, account));
         }
-        let Some(mode) = Mode::from_number(mode) else {
-            return Err(Layer::Order.refuse(Cause::Figure, 0));
-        };
-        self.accounts[account as usize].mode = mode;
+        let mode = Mode::try_from(mode)?;
+        let lender = &mut self.accounts[account as usize];
+        lender.mode = mode;
         if mode.is_whole() {
-            self.presets[account as usize] = zeros::<16>();
+            lender.presets = [0; 16];
         }
         Ok(())
     }
 
     /// Sets a bond's price, in fen for 100 yuan of face.
     pub fn price(&mut self, day: u32, bond: u64, price: u64) -> Result<(), Refusal>
-        ensures { Settles (first_of (price_rules (kept_of self.old) day bond price)) tt (kept_of self.old) (with_price (kept_of self.old) bond price) result (kept_of self.new) }
+        ensures { Settles (first_of (price_rules self.old day bond price)) tt self.old (with_price self.old bond price) result self.new }
     {
         if self.is_not_open(day) {
             return Err(Layer::Order.refuse(Cause::Time, 0));

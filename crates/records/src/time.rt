@@ -2,7 +2,6 @@
 ghost use Rattle.std.specs.Prelude.{◌≡◌};
 ghost use Rattle.terms.specs.Table.{first_of};
 ghost use Rattle.terms.specs.Refusals.{Settles};
-ghost use Rattle.records.specs.Kept.{kept_of};
 ghost use Rattle.records.specs.Times.{not_open, not_shut, clock_rules, clocked, shut_rules, closed, next_rules, reopened};
 
 use crate::kept::{Records, Time};
@@ -11,20 +10,20 @@ use terms::{Cause, Layer, Range, Refusal};
 impl Records {
     /// Whether an open day of this number is not this pool's.
     pub fn is_not_open(&self, day: u32) -> bool
-        ensures { result ≡ not_open (kept_of self.now) day }
+        ensures { result ≡ not_open self.now day }
     {
         !self.time.opened || self.time.day != day
     }
 
     fn is_not_shut(&self, day: u32) -> bool
-        ensures { result ≡ not_shut (kept_of self.now) day }
+        ensures { result ≡ not_shut self.now day }
     {
         self.time.opened || self.time.day != day
     }
 
     /// Moves the clock on to a minute of the day.
     pub fn clock(&mut self, day: u32, minute: u64) -> Result<(), Refusal>
-        ensures { Settles (first_of (clock_rules (kept_of self.old) day minute)) tt (kept_of self.old) (clocked (kept_of self.old) minute) result (kept_of self.new) }
+        ensures { Settles (first_of (clock_rules self.old day minute)) tt self.old (clocked self.old minute) result self.new }
     {
         if self.is_not_open(day) {
             return Err(Layer::Order.refuse(Cause::Time, 0));
@@ -38,7 +37,7 @@ impl Records {
 
     /// Ends the day.
     pub fn shut(&mut self, day: u32) -> Result<(), Refusal>
-        ensures { Settles (first_of (shut_rules (kept_of self.old) day)) tt (kept_of self.old) (closed (kept_of self.old)) result (kept_of self.new) }
+        ensures { Settles (first_of (shut_rules self.old day)) tt self.old (closed self.old) result self.new }
     {
         if self.is_not_open(day) {
             return Err(Layer::Order.refuse(Cause::Time, 0));
@@ -52,7 +51,7 @@ impl Records {
 
     /// Opens the next day, at minute 0.
     pub fn next(&mut self, shut: u32, day: u64, r001: u64) -> Result<(), Refusal>
-        ensures { Settles (first_of (next_rules (kept_of self.old) shut day r001)) tt (kept_of self.old) (reopened (kept_of self.old) day r001) result (kept_of self.new) }
+        ensures { Settles (first_of (next_rules self.old shut day r001)) tt self.old (reopened self.old day r001) result self.new }
     {
         if self.is_not_shut(shut) {
             return Err(Layer::Order.refuse(Cause::Time, 0));

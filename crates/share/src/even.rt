@@ -27,11 +27,7 @@ impl SharingRule for EvenRule {
 pub fn capped(limits: &[u64; 32], want: u64) -> [u64; 32]
     ensures { result ≡ capped_at limits.now want }
 {
-    let mut counted = [0; 32];
-    for (i, &limit) in limits.iter().enumerate() {
-        counted[i] = within(limit, want);
-    }
-    counted
+    limits.map(|limit| within(limit, want))
 }
 
 /// A limit as it counts: at most the want.

@@ -2,10 +2,6 @@
 
 #![tactic(auto)]
 
-mod bonds;
-mod cash;
 mod row;
 
-pub use bonds::StandingBonds;
-pub use cash::StandingCash;
-pub use row::Standing;
+pub use row::{Standing, StandingBonds, StandingCash};

@@ -1,9 +1,8 @@
-//! A standing book keeps the amounts themselves. All its work is here, for any count of places.
+//! A standing book keeps the amounts themselves, for any count of places.
 ghost use Rattle.std.specs.Prelude.{◌≡◌, length};
-ghost use Rattle.terms.specs.Table.{answered, settled};
-ghost use Rattle.book.specs.Moves.{amount_at, refusal, moved, largest_amount};
+ghost use Rattle.book.specs.Moves.{largest_amount};
 
-use book::{LARGEST_AMOUNT, MoveRefusal};
+use book::{Book, LARGEST_AMOUNT, Move, MoveRefusal};
 
 /// A row of places, each with its amount.
 #[derive(Drop)]
@@ -12,6 +11,12 @@ pub struct Standing<const N: usize> {
     ghost sized: { length amounts ≡ N },
 }
 
+/// A standing book with the places of bonds: an available and a pledged one for each of 32 accounts and 16 bonds.
+pub type StandingBonds = Standing<1024>;
+
+/// A standing book with the places of cash: one for each of 32 accounts.
+pub type StandingCash = Standing<32>;
+
 impl<const N: usize> Standing<N> {
     /// A book that holds these amounts, be they above the largest or not.
     pub fn new(amounts: [u64; N]) -> Self
@@ -19,36 +24,36 @@ impl<const N: usize> Standing<N> {
     {
         Standing { amounts }
     }
+}
 
-    // What a place holds, or that there is none.
-    pub(crate) fn read(&self, place: usize) -> Option<u64>
-        ensures { result ≡ amount_at self.now.amounts place }
-    {
-        if place < N {
-            Some(self.amounts[place])
-        } else {
-            None
-        }
+impl<const N: usize> Book for Standing<N> {
+    const PLACES: usize = N;
+
+    const LARGEST: u64 = LARGEST_AMOUNT;
+
+    ghost PLACES = { N };
+
+    ghost LARGEST = { largest_amount };
+
+    ghost amounts = { λ b. b.amounts };
+
+    ghost sized = { λ b. b.sized };
+
+    fn amount(&self, place: usize) -> Option<u64> {
+        self.amounts.get(place).copied()
     }
 
-    // Moves `n` from one place to another, or says why not.
-    pub(crate) fn carry(&mut self, from: usize, to: usize, n: u64) -> Result<(), MoveRefusal>
-        ensures answer { result ≡ answered (refusal largest_amount self.old.amounts from to n) tt }
-        ensures after { self.new.amounts ≡ settled (refusal largest_amount self.old.amounts from to n) self.old.amounts (moved self.old.amounts from to n) }
-    {
-        if from >= N || to >= N || from == to {
-            return Err(MoveRefusal::NoPlace);
-        }
-        let source = self.amounts[from];
-        if source < n {
-            return Err(MoveRefusal::Short);
-        }
-        let target = self.amounts[to];
-        if target > LARGEST_AMOUNT || n > LARGEST_AMOUNT - target {
-            return Err(MoveRefusal::Over);
-        }
-        self.amounts[from] = source - n;
-        self.amounts[to] = target + n;
+    fn shift(&mut self, from: usize, to: usize, n: u64) -> Result<(), MoveRefusal> {
+        let asked = Move {
+            from,
+            to,
+            source: self.amount(from),
+            target: self.amount(to),
+            n,
+        };
+        let (source, target) = asked.amounts_after()?;
+        self.amounts[from] = source;
+        self.amounts[to] = target;
         Ok(())
     }
 }

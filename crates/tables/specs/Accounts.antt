@@ -2,6 +2,7 @@
 use Rattle.std.specs.Prelude.{ℕ, ◌-◌, min, Bool, true, false, cond, not, ◌||◌, ◌==◌}
 use Rattle.terms.specs.Ranges.{allowed}
 use Rattle.terms.specs.declared.range.Range.TheVariants as range
+use Rattle.tables.specs.Blank.{blank}
 use Rattle.tables.specs.declared.account.Account.{Account}
 use Rattle.tables.specs.declared.account.AccountFigures.{AccountFigures}
 use Rattle.tables.specs.declared.account.Right.{Right}
@@ -37,9 +38,9 @@ is_whole Whole = true
 abbrev pub bad_account : AccountFigures → Bool
 bad_account f = not (allowed range.Right f.right) || not (allowed range.Grade f.grade)
 
--- the account that good figures mean; every account starts by presets
+-- the account that good figures mean; every account starts by presets, with none set
 abbrev pub account_of : AccountFigures → Account
-account_of f = record { right = right_of f.right; grade = f.grade; mode = Preset }
+account_of f = record { right = right_of f.right; grade = f.grade; mode = Preset; presets = blank 16 }
 
 -- lendable: 0 without the right to lend, the available face in whole mode,
 -- and otherwise the smaller of the available face and what the preset leaves over what is lent

@@ -1,3 +1,4 @@
+pub mod Blank
 pub mod Rows
 pub mod Accounts
 pub mod Bonds

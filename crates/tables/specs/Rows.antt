@@ -13,10 +13,6 @@ first_bad bad (x ∷ xs) = cond (bad x) 0 (suc (first_bad bad xs))
 abbrev pub has_bad : {X : Type 0} → (X → Bool) → List X → Bool
 has_bad bad xs = nat_lt (first_bad bad xs) (length xs)
 
--- the rows meant, or the number of the first bad one
-abbrev pub read_rows : {X Y : Type 0} → (X → Bool) → (X → Y) → List X → Result (List Y) ℕ
-read_rows bad meant xs = cond (has_bad bad xs) (Err (first_bad bad xs)) (Ok (map meant xs))
-
 -- a table read from figures, or the refusal that names its first bad row
 abbrev pub read_table : {X Y : Type 0} → (X → Bool) → (X → Y) → List X → Result (List Y) Refusal
 read_table bad meant xs = cond (has_bad bad xs) (Err (refuse_order cause.Figure (first_bad bad xs))) (Ok (map meant xs))

@@ -1,93 +1,98 @@
 //! Accounts: their rights and grades, how they lend, and what one may lend.
-ghost use Rattle.std.specs.Prelude.{◌≡◌, length, IfOk, if◌then◌else◌, Some, None};
-ghost use Rattle.tables.specs.Rows.{read_table};
+ghost use Rattle.std.specs.Prelude.{◌≡◌};
+ghost use Rattle.terms.specs.Named.{named};
 ghost use Rattle.terms.specs.Ranges.{allowed};
 ghost use Rattle.terms.specs.declared.range.Range.TheVariants as range;
 ghost use Rattle.tables.specs.Accounts.{right_of, mode_of, is_whole, may_lend, may_borrow, lendable_of, bad_account, account_of};
 
-use crate::rows::{ReadFrom, read_rows};
-use terms::{Cause, Layer, Range, Refusal};
+use crate::rows::ReadFrom;
+use terms::{Range, UnknownNumber};
 
 /// What a member may do.
-#[derive(Clone, Copy)]
+#[derive(Clone, Copy, Debug, Default, PartialEq, Eq)]
 pub enum Right {
+    #[default]
     Neither,
     Lend,
     Borrow,
     Both,
 }
 
-impl Right {
-    fn from_number(n: u64) -> Option<Right>
-        ensures { result ≡ (if allowed range.Right n then Some (right_of n) else None) }
-    {
+/// 0 neither, 1 lend, 2 borrow, 3 both.
+impl TryFrom<u64> for Right {
+    type Error = UnknownNumber;
+
+    ghost try_from_gives = { λ n r. r ≡ named (allowed range.Right n) (right_of n) n };
+
+    fn try_from(n: u64) -> Result<Right, UnknownNumber> {
         match n {
-            0 => Some(Right::Neither),
-            1 => Some(Right::Lend),
-            2 => Some(Right::Borrow),
-            3 => Some(Right::Both),
-            _ => None,
+            0 => Ok(Right::Neither),
+            1 => Ok(Right::Lend),
+            2 => Ok(Right::Borrow),
+            3 => Ok(Right::Both),
+            _ => Err(UnknownNumber(n)),
         }
     }
+}
 
+impl Right {
     pub fn may_lend(self) -> bool
         ensures { result ≡ may_lend self }
     {
-        match self {
-            Right::Lend | Right::Both => true,
-            Right::Neither | Right::Borrow => false,
-        }
+        matches!(self, Right::Lend | Right::Both)
     }
 
     pub fn may_borrow(self) -> bool
         ensures { result ≡ may_borrow self }
     {
-        match self {
-            Right::Borrow | Right::Both => true,
-            Right::Neither | Right::Lend => false,
-        }
+        matches!(self, Right::Borrow | Right::Both)
     }
 }
 
 /// How an account lends: up to a preset for each bond, or its whole available face.
-#[derive(Clone, Copy)]
+#[derive(Clone, Copy, Debug, Default, PartialEq, Eq)]
 pub enum Mode {
+    #[default]
     Preset,
     Whole,
 }
 
-impl Mode {
-    /// The mode of a number: 0 by presets, 1 the whole available face.
-    pub fn from_number(n: u64) -> Option<Mode>
-        ensures { result ≡ (if allowed range.Mode n then Some (mode_of n) else None) }
-    {
+/// 0 by presets, 1 the whole available face.
+impl TryFrom<u64> for Mode {
+    type Error = UnknownNumber;
+
+    ghost try_from_gives = { λ n r. r ≡ named (allowed range.Mode n) (mode_of n) n };
+
+    fn try_from(n: u64) -> Result<Mode, UnknownNumber> {
         match n {
-            0 => Some(Mode::Preset),
-            1 => Some(Mode::Whole),
-            _ => None,
+            0 => Ok(Mode::Preset),
+            1 => Ok(Mode::Whole),
+            _ => Err(UnknownNumber(n)),
         }
     }
+}
 
+impl Mode {
     /// Whether an account in this mode lends its whole available face.
     pub fn is_whole(self) -> bool
         ensures { result ≡ is_whole self }
     {
-        match self {
-            Mode::Preset => false,
-            Mode::Whole => true,
-        }
+        self == Mode::Whole
     }
 }
 
-#[derive(Clone, Copy)]
+/// By default an account that may do nothing.
+#[derive(Clone, Copy, Debug, Default, PartialEq, Eq)]
 pub struct Account {
     pub right: Right,
     pub grade: u8,
     pub mode: Mode,
+    /// For each bond the face up to which the account lends by presets; 0 where none is set.
+    pub presets: [u64; 16],
 }
 
 /// An account as an opening tells it; any numbers may stand here.
-#[derive(Clone, Copy)]
+#[derive(Clone, Copy, Debug, Default, PartialEq, Eq)]
 pub struct AccountFigures {
     pub right: u64,
     pub grade: u64,
@@ -98,8 +103,9 @@ impl ReadFrom<AccountFigures> for Account {
 
     ghost meant = { account_of };
 
+    #[tactic(auto, unfolding(crate::specs::Blank::blank))]
     fn read(figures: &AccountFigures) -> Option<Account> {
-        let right = Right::from_number(figures.right)?;
+        let right = Right::try_from(figures.right).ok()?;
         if !Range::Grade.allows(figures.grade) {
             return None;
         }
@@ -107,23 +113,8 @@ impl ReadFrom<AccountFigures> for Account {
             right,
             grade: figures.grade as u8,
             mode: Mode::Preset,
+            presets: [0; 16],
         })
-    }
-}
-
-/// The accounts that the figures mean, or the refusal that names the first row with a figure outside its range.
-pub fn read_accounts(figures: [AccountFigures; 32]) -> Result<[Account; 32], Refusal>
-    ensures read { result ≡ read_table bad_account account_of figures }
-    ensures sized { IfOk result (λ rows. length rows ≡ 32) }
-{
-    let nobody = Account {
-        right: Right::Neither,
-        grade: 0,
-        mode: Mode::Preset,
-    };
-    match read_rows::<_, Account, 32>(figures, nobody) {
-        Ok(accounts) => Ok(accounts),
-        Err(row) => Err(Layer::Order.refuse(Cause::Figure, row as u64)),
     }
 }
 

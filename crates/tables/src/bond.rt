@@ -1,12 +1,11 @@
 //! Bonds: their units, prices, discounts, adjustments, limits and maturities.
-ghost use Rattle.std.specs.Prelude.{◌≡◌, length, IfOk};
-ghost use Rattle.tables.specs.Rows.{read_table};
 ghost use Rattle.tables.specs.Bonds.{bad_bond, bond_of};
 
-use crate::rows::{ReadFrom, read_rows};
-use terms::{Cause, Layer, Range, Refusal};
+use crate::rows::ReadFrom;
+use terms::Range;
 
-#[derive(Clone, Copy)]
+/// By default a bond without figures.
+#[derive(Clone, Copy, Debug, Default, PartialEq, Eq)]
 pub struct Bond {
     /// Yuan of face: every face of the bond is a multiple of it.
     pub unit: u32,
@@ -24,7 +23,7 @@ pub struct Bond {
 }
 
 /// A bond as an opening tells it; any numbers may stand here.
-#[derive(Clone, Copy)]
+#[derive(Clone, Copy, Debug, Default, PartialEq, Eq)]
 pub struct BondFigures {
     pub unit: u64,
     pub price: u64,
@@ -63,25 +62,5 @@ impl ReadFrom<BondFigures> for Bond {
             pledge_limit: figures.pledge_limit as u16,
             maturity: figures.maturity as u32,
         })
-    }
-}
-
-/// The bonds that the figures mean, or the refusal that names the first row with a figure outside its range.
-pub fn read_bonds(figures: [BondFigures; 16]) -> Result<[Bond; 16], Refusal>
-    ensures read { result ≡ read_table bad_bond bond_of figures }
-    ensures sized { IfOk result (λ rows. length rows ≡ 16) }
-{
-    let nothing = Bond {
-        unit: 0,
-        price: 0,
-        discount: 0,
-        adjustment: 0,
-        lent_limit: 0,
-        pledge_limit: 0,
-        maturity: 0,
-    };
-    match read_rows::<_, Bond, 16>(figures, nothing) {
-        Ok(bonds) => Ok(bonds),
-        Err(row) => Err(Layer::Order.refuse(Cause::Figure, row as u64)),
     }
 }

@@ -6,5 +6,6 @@ mod account;
 mod bond;
 mod rows;
 
-pub use account::{Account, AccountFigures, Mode, Right, lendable, read_accounts};
-pub use bond::{Bond, BondFigures, read_bonds};
+pub use account::{Account, AccountFigures, Mode, Right, lendable};
+pub use bond::{Bond, BondFigures};
+pub use rows::{ReadFrom, read_table};

@@ -1,9 +1,13 @@
 //! One reading of a table: every row of figures in turn, up to the first that is outside its range.
-ghost use Rattle.std.specs.Prelude.{◌≡◌, ◌<◌, Bool, length, if◌then◌else◌, Some, None, MatchResult};
-ghost use Rattle.tables.specs.Rows.{read_rows};
+ghost use Rattle.std.specs.Prelude.{◌≡◌, Bool, length, IfOk, if◌then◌else◌, Some, None};
+ghost use Rattle.tables.specs.Rows.{read_table};
+ghost use Rattle.terms.specs.Refusals.{refuse_order};
+ghost use Rattle.terms.specs.declared.refusal.Cause.TheVariants as cause;
+
+use terms::{Cause, Layer, Refusal};
 
 /// A row that is read from figures of the type F.
-pub(crate) trait ReadFrom<F>: Sized {
+pub trait ReadFrom<F>: Copy + Default {
     /// A figure of the row is outside its range.
     ghost bad: { F → Bool };
 
@@ -14,20 +18,24 @@ pub(crate) trait ReadFrom<F>: Sized {
         ensures { result ≡ (if bad figures.now then None else Some (meant figures.now)) };
 }
 
-/// The rows that the figures mean, or the number of the first row with a figure outside its range.
-pub(crate) fn read_rows<F: Copy, R: ReadFrom<F> + Copy, const N: usize>(
-    figures: [F; N],
-    empty: R,
-) -> Result<[R; N], usize>
-    ensures read { result ≡ read_rows R.ReadFrom.bad R.ReadFrom.meant figures }
-    ensures sized { MatchResult result (λ rows. length rows ≡ N) (λ row. row < N) }
+/// The rows that the figures mean, or the refusal that names the first row with a figure outside its range.
+pub fn read_table<F, R: ReadFrom<F>, const N: usize>(figures: &[F; N]) -> Result<[R; N], Refusal>
+    ensures read { result ≡ read_table R.ReadFrom.bad R.ReadFrom.meant figures.now }
+    ensures sized { IfOk result (λ rows. length rows ≡ N) }
 {
-    let mut rows = [empty; N];
+    let mut rows = [R::default(); N];
     for (i, one) in figures.iter().enumerate() {
-        match R::read(one) {
-            Some(row) => rows[i] = row,
-            None => return Err(i),
-        }
+        let Some(row) = R::read(one) else {
+            return Err(refuse_row(i));
+        };
+        rows[i] = row;
     }
     Ok(rows)
+}
+
+// The refusal of a row with a figure outside its range.
+fn refuse_row(row: usize) -> Refusal
+    ensures { result ≡ refuse_order cause.Figure row }
+{
+    Layer::Order.refuse(Cause::Figure, row as u64)
 }

@@ -1,9 +1,7 @@
 -- The kinds of order, and the minutes at which each may come, both ends included.
-use Rattle.std.specs.Prelude.{◌≡◌, ℕ, Bool, cond, Result, ◌==◌, nat_le}
-use Rattle.terms.specs.Named.{named}
+use Rattle.std.specs.Prelude.{ℕ, Bool, cond, ◌==◌, nat_le}
 use Rattle.terms.specs.Ranges.{inside}
 use Rattle.terms.specs.declared.order.OrderKind.{OrderKind}
-use Rattle.terms.specs.declared.unknown.UnknownNumber.{UnknownNumber}
 use Rattle.terms.specs.declared.order.OrderKind.TheVariants.{Full, Net}
 
 -- 0 full, 1 net; no other number is a kind
@@ -12,10 +10,6 @@ is_kind n = nat_le n 1
 
 abbrev pub kind_of : ℕ → OrderKind
 kind_of n = cond (n == 1) Net Full
-
--- what a number reads as: the kind, or that it names none
-abbrev pub KindRead : ℕ → Result OrderKind UnknownNumber → Type 0
-KindRead n r = r ≡ named (is_kind n) (kind_of n) n
 
 abbrev pub in_window : OrderKind → ℕ → Bool
 in_window Full minute = inside 540 1010 minute

@@ -1,6 +1,7 @@
 //! Orders to borrow: what one carries, the two kinds, and the minutes of the day at which each may come.
 ghost use Rattle.std.specs.Prelude.{◌≡◌};
-ghost use Rattle.terms.specs.Orders.{KindRead, in_window};
+ghost use Rattle.terms.specs.Named.{named};
+ghost use Rattle.terms.specs.Orders.{is_kind, kind_of, in_window};
 
 use crate::unknown::UnknownNumber;
 
@@ -33,7 +34,7 @@ pub enum OrderKind {
 impl TryFrom<u64> for OrderKind {
     type Error = UnknownNumber;
 
-    ghost try_from_gives = { KindRead };
+    ghost try_from_gives = { λ n r. r ≡ named (is_kind n) (kind_of n) n };
 
     fn try_from(n: u64) -> Result<OrderKind, UnknownNumber> {
         match n {

@@ -6,13 +6,14 @@ use Rattle.terms.specs.declared.refusal.Cause.TheVariants as cause
 use Rattle.tables.specs.Accounts.{lendable_of}
 use Rattle.book.specs.Ledgers.{Ledger}
 use Rattle.book.specs.Places.{available}
-use Rattle.records.specs.Kept.{Kept, no_member, no_bond, account_at, preset_at}
+use Rattle.records.specs.Kept.{no_member, no_bond, account_at, preset_at}
+use Rattle.records.specs.declared.kept.Records.{Records}
 
 -- the face of a bond that an account has lent: nothing is lent yet
-abbrev pub lent_face : Kept → ℕ → ℕ → ℕ
+abbrev pub lent_face : Records → ℕ → ℕ → ℕ
 lent_face k account bond = 0
 
-abbrev pub lendable_at : Ledger → Kept → ℕ → ℕ → ℕ
+abbrev pub lendable_at : Ledger → Records → ℕ → ℕ → ℕ
 lendable_at bonds k account bond =
     lendable_of (account_at k account) (slice_index bonds.amounts (available account bond)) (preset_at k account bond) (lent_face k account bond)
 

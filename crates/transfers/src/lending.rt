@@ -2,7 +2,6 @@
 ghost use Rattle.std.specs.Prelude.{◌≡◌};
 ghost use Rattle.terms.specs.Table.{first_of, answered};
 ghost use Rattle.book.specs.Ledgers.{ledger};
-ghost use Rattle.records.specs.Kept.{kept_of};
 ghost use Rattle.transfers.specs.Lending.{lendable_rules, lendable_at};
 
 use book::{Book, available_place, held};
@@ -17,7 +16,7 @@ pub fn lendable_face<B: Book>(
     account: u64,
     bond: u64,
 ) -> Result<u64, Refusal>
-    ensures { result ≡ answered (first_of (lendable_rules account bond)) (lendable_at (ledger B.Book bonds.now) (kept_of records.now) account bond) }
+    ensures { result ≡ answered (first_of (lendable_rules account bond)) (lendable_at (ledger B.Book bonds.now) records.now account bond) }
 {
     if is_no_member(account) {
         return Err(Layer::Order.refuse(Cause::Account, account));
@@ -27,6 +26,6 @@ pub fn lendable_face<B: Book>(
     }
     let lender = records.accounts[account as usize];
     let available = held(bonds, available_place(account as u8, bond as u8));
-    let preset = records.presets[account as usize][bond as usize];
+    let preset = lender.presets[bond as usize];
     Ok(lendable(lender, available, preset, 0))
 }

@@ -5,7 +5,6 @@ ghost use Rattle.terms.specs.Refusals.{Settles};
 ghost use Rattle.book.specs.Ledgers.{ledger};
 ghost use Rattle.book.specs.Moves.{moved};
 ghost use Rattle.book.specs.Places.{available};
-ghost use Rattle.records.specs.Kept.{kept_of};
 ghost use Rattle.transfers.specs.Transfers.{move_rules, deliver_rules, remit_rules};
 
 use book::{Book, available_place, has_room, held};
@@ -45,7 +44,7 @@ pub fn deliver<B: Book>(
     bond: u64,
     face: u64,
 ) -> Result<(), Refusal>
-    ensures { Settles (first_of (deliver_rules (ledger B.Book bonds.old) (kept_of records.now) day from to bond face)) tt (B.Book.amounts bonds.old) (moved (B.Book.amounts bonds.old) (available from bond) (available to bond) face) result (B.Book.amounts bonds.new) }
+    ensures { Settles (first_of (deliver_rules (ledger B.Book bonds.old) records.now day from to bond face)) tt (B.Book.amounts bonds.old) (moved (B.Book.amounts bonds.old) (available from bond) (available to bond) face) result (B.Book.amounts bonds.new) }
 {
     if records.is_not_open(day) {
         return Err(Layer::Order.refuse(Cause::Time, 0));
@@ -78,7 +77,7 @@ pub fn remit<C: Book>(
     to: u64,
     fen: u64,
 ) -> Result<(), Refusal>
-    ensures { Settles (first_of (remit_rules (ledger C.Book cash.old) (kept_of records.now) day from to fen)) tt (C.Book.amounts cash.old) (moved (C.Book.amounts cash.old) from to fen) result (C.Book.amounts cash.new) }
+    ensures { Settles (first_of (remit_rules (ledger C.Book cash.old) records.now day from to fen)) tt (C.Book.amounts cash.old) (moved (C.Book.amounts cash.old) from to fen) result (C.Book.amounts cash.new) }
 {
     if records.is_not_open(day) {
         return Err(Layer::Order.refuse(Cause::Time, 0));

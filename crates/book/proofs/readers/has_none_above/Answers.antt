@@ -1,24 +1,12 @@
-use Rattle.std.proofs.Common.{◌≤◌, length, sym, ap, ◌∙◌, arith}
-use Rattle.std.proofs.lemmas.List.{drop_all}
-use Rattle.book.specs.Ledgers.{none_above}
-use Rattle.book.proofs.Reading.{above_more, above_here}
+use Rattle.std.proofs.Common.{nat_le, get_or, refl, ◌∙◌, arith, rules}
+use Rattle.std.proofs.lemmas.Iterator.{YieldsList-from_range}
+use Rattle.std.proofs.lemmas.Iterator.Search.{all_from_yields_List}
+use Rattle.book.proofs.Reading.{all_places}
 use Rattle.book.proofs.readers.has_none_above.Goals as goal
-
-pub returns-then-held-most : goal.returns-then-held-most
-returns-then-held-most g c =
-    let xs = g.B.Book.amounts c.args.book.now in
-    let z = g.met.B.Book.sized c.args.book.now in
-    sym (c.loop-place.invariant ∙ above_here c.args.most xs c.loop-place.place (omega arith) (omega arith))
-
-pub loop-place-preserved : goal.loop-place-preserved
-loop-place-preserved g c =
-    let xs = g.B.Book.amounts c.args.book.now in
-    let z = g.met.B.Book.sized c.args.book.now in
-    c.loop-place.invariant ∙ above_more c.args.most xs c.loop-place.place (omega arith) (omega arith)
 
 pub returns : goal.returns
 returns g c =
     let xs = g.B.Book.amounts c.args.book.now in
     let z = g.met.B.Book.sized c.args.book.now in
-    let past : length xs ≤ c.loop-place.place = omega arith in
-    sym (c.loop-place.invariant ∙ ap (none_above c.args.most) (drop_all c.loop-place.place xs past))
+    all_from_yields_List (λ k. nat_le (get_or xs k 0) c.args.most) _ _ _ c.all.ensures.ran (YieldsList-from_range 0 c.PLACES.result c.PLACES.result refl (omega arith)) (λ x b q k. search rules)
+    ∙ all_places c.args.most xs 0 c.PLACES.result (omega arith)

@@ -6,9 +6,9 @@ use Rattle.moves.proofs.many.gather.Goals as goal
 pub loop-account-preserved : goal.loop-account-preserved
 loop-account-preserved g c =
     let n : length c.args.amounts.now ≡ 32 = search rules in
-    turn g.B.Book.most (gather_moves c.args.column c.args.target) (taken c.args.column c.args.target) (λ a. refl) (λ a n ns. refl) c.args.amounts.now _ (g.B.Book.amounts c.loop-account.book) _ c.loop-account.account (omega arith) c.loop-account.invariant c.take_one.ensures
+    turn g.B.Book.LARGEST (gather_moves c.args.column c.args.target) (taken c.args.column c.args.target) (λ a. refl) (λ a n ns. refl) c.args.amounts.now _ (g.B.Book.amounts c.loop-account.book) _ c.loop-account.account (omega arith) c.loop-account.invariant c.take_one.ensures
 
 pub returns : goal.returns
 returns g c =
     let n : length c.args.amounts.now ≡ 32 = search rules in
-    done g.B.Book.most (gather_moves c.args.column c.args.target) (taken c.args.column c.args.target) (λ a. refl) (λ a n ns. refl) c.args.amounts.now _ (g.B.Book.amounts c.loop-account.book) c.loop-account.account (omega arith) c.loop-account.invariant
+    done g.B.Book.LARGEST (gather_moves c.args.column c.args.target) (taken c.args.column c.args.target) (λ a. refl) (λ a n ns. refl) c.args.amounts.now _ (g.B.Book.amounts c.loop-account.book) c.loop-account.account (omega arith) c.loop-account.invariant

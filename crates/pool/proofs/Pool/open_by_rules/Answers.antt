@@ -1,17 +1,17 @@
 use Rattle.std.proofs.Common.{refl, ap}
-use Rattle.records.specs.Kept.{Kept, kept_of}
 use Rattle.records.specs.Openings.{opened_records}
 use Rattle.pool.specs.Opening.{opening_of, opening_verdict, opening_state}
 use Rattle.pool.specs.State.{with_kept}
-use Rattle.pool.proofs.Begun.{was_accepted, was_refused}
+use Rattle.pool.proofs.Answered.{was_accepted, was_refused}
 use Rattle.pool.proofs.Pool.open_by_rules.Goals as goal
+use Rattle.records.specs.declared.kept.Records.{Records}
 
 pub returns-in-Ok : goal.returns-in-Ok
 returns-in-Ok g c =
     let f = c.args.figures.now in
     let o = opening_of g.B.Book g.C.Book g.S.SharingRule c.args.bonds c.args.cash c.args.rule f in
-    let w = was_accepted (opening_verdict o) (opened_records f) (kept_of c.in-Ok.records) c.in-Ok.ensures in
-    (w.0, ap (with_kept (opening_state o)) w.1, ap (λ (k : Kept). k.time.day) w.1)
+    let w = was_accepted (opening_verdict o) (opened_records f) c.in-Ok.records c.in-Ok.ensures in
+    (w.0, ap (with_kept (opening_state o)) w.1, ap (λ (k : Records). k.time.day) w.1)
 
 pub returns-in-Err : goal.returns-in-Err
 returns-in-Err g c =
