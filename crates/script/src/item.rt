@@ -49,7 +49,7 @@ impl FromStr for RuleKind {
 }
 
 /// One line of the opening part. Any account and any bond may stand here.
-#[derive(Clone, Copy)]
+#[derive(Clone, Copy, Debug, PartialEq, Eq)]
 pub enum OpeningPart {
     Books {
         bonds: BookKind,
@@ -87,7 +87,7 @@ pub struct Opening {
 }
 
 /// What one line of a script asks for.
-#[derive(Clone, Copy)]
+#[derive(Clone, Copy, Debug, PartialEq, Eq)]
 pub enum Item<'a> {
     Part(OpeningPart),
     Open(Opening),
