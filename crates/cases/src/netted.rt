@@ -8,8 +8,8 @@ fn nets_bonds_both_ways(rt: HostRuntime) {
     let mut book = NettingBonds::new(hundreds());
     let free = available_place(31, 15);
     let pledged = pledged_place(31, 15);
-    assert!(rt; book.shift(free, pledged, 100).is_ok());
-    assert!(rt; book.shift(pledged, free, 130).is_ok());
+    assert_eq!(rt; book.shift(free, pledged, 100), Ok(()));
+    assert_eq!(rt; book.shift(pledged, free, 130), Ok(()));
     assert_eq!(rt; book.amount(1022), Some(130));
     assert_eq!(rt; book.amount(1023), Some(70));
     assert_eq!(rt; book.amount(1024), None);

@@ -36,10 +36,10 @@ fn lines(rt: HostRuntime) {
 // Each line is damaged, in these words.
 fn refuses(rt: &(impl Abort + AllocGlobal), lines: &[(&[u8], &str)]) -> Result<(), Fail> {
     for (line, what) in lines {
-        match parse_line(line) {
-            Ok(_) => return Err(Fail::new(*what)),
-            Err(error) => assert_eq!(rt; format!(in rt.alloc(); "{error}")?.as_str(), *what),
-        }
+        let Err(error) = parse_line(line) else {
+            return Err(Fail::new(*what));
+        };
+        assert_eq!(rt; format!(in rt.alloc(); "{error}")?.as_str(), *what);
     }
     Ok(())
 }
@@ -87,15 +87,7 @@ fn damaged_bytes(rt: HostRuntime) -> Result<(), Fail> {
 #[test]
 fn blank_lines(rt: HostRuntime) {
     for line in ["", "   ", "# clock 1", "  #"] {
-        assert!(rt; matches!(parse_line(line.as_bytes()), Ok(None)));
-    }
-}
-
-// The call of a line, if it is one.
-fn called(line: &str) -> Option<Call> {
-    match parse_line(line.as_bytes()) {
-        Ok(Some(Item::Call(call))) => Some(call),
-        _ => None,
+        assert_eq!(rt; parse_line(line.as_bytes()), Ok(None));
     }
 }
 
@@ -138,7 +130,7 @@ fn calls(rt: HostRuntime) {
         ("next 1 2", Call::Next { day: 1, r001: 2 }),
     ];
     for (line, call) in read {
-        assert_eq!(rt; called(line), Some(call));
+        assert_eq!(rt; parse_line(line.as_bytes()), Ok(Some(Item::Call(call))));
     }
 }
 

@@ -8,7 +8,7 @@ fn pledges_bonds(rt: HostRuntime) {
     let mut book = StandingBonds::new(hundreds());
     let free = available_place(31, 15);
     let pledged = pledged_place(31, 15);
-    assert!(rt; book.shift(free, pledged, 30).is_ok());
+    assert_eq!(rt; book.shift(free, pledged, 30), Ok(()));
     assert_eq!(rt; book.amount(1022), Some(70));
     assert_eq!(rt; book.amount(1023), Some(130));
     assert_eq!(rt; book.amount(1024), None);
