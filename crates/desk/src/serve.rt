@@ -28,6 +28,8 @@ impl<'a, 'o> Desk<'a, 'o> {
         }
     }
 
+    // A loop of its own beside `run_without_pool`: one for both would keep the pool in an Option, and look into it at
+    // every item.
     fn serve<B: Book + Drop, C: Book + Drop, S: SharingRule + Drop>(
         self,
         mut pool: Pool<B, C, S>,
@@ -63,7 +65,8 @@ fn answer_to(outcome: Outcome, day: &Day) -> Answer {
     }
 }
 
-// Every amount of the books that is not 0, in rising order of place.
+// Every amount of the books that is not 0, in rising order of place. Two loops, since each book is asked by a call of
+// its own and told by an answer of its own.
 fn write_amounts<B: Book, C: Book, S: SharingRule>(
     pool: &Pool<B, C, S>,
     out: &mut Output,
