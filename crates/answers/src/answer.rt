@@ -1,41 +1,13 @@
 //! The answers of a desk, one line each.
 ghost use Rattle.std.specs.Prelude.{◌≡◌, Some};
-ghost use Rattle.answers.specs.Answers.{word_of, lendable_answer, line_of, refused_line, bond_line};
+ghost use Rattle.answers.specs.Answers.{lendable_answer, line_of, bond_line};
 ghost use Rattle.std.specs.Fmt.{DisplaysOnOk};
 
 use std::fmt;
-use terms::{Cause, Refusal};
-
-/// The word of a cause, as members read it.
-pub fn word(cause: Cause) -> &'static str
-    ensures { result.now ≡ word_of cause }
-{
-    match cause {
-        Cause::Account => "account",
-        Cause::Bond => "bond",
-        Cause::Loan => "loan",
-        Cause::Right => "right",
-        Cause::Face => "face",
-        Cause::Time => "time",
-        Cause::Term => "term",
-        Cause::Eligibility => "eligibility",
-        Cause::Rows => "rows",
-        Cause::Maturity => "maturity",
-        Cause::Loans => "loans",
-        Cause::Pool => "pool",
-        Cause::Short => "short",
-        Cause::Value => "value",
-        Cause::Concentration => "concentration",
-        Cause::Stage => "stage",
-        Cause::Late => "late",
-        Cause::Lender => "lender",
-        Cause::Over => "over",
-        Cause::Figure => "figure",
-    }
-}
+use terms::Refusal;
 
 /// What a desk answers to one item.
-#[derive(Clone, Copy)]
+#[derive(Clone, Copy, Debug, PartialEq, Eq)]
 pub enum Answer {
     Accepted,
     Refused(Refusal),
@@ -52,11 +24,11 @@ pub enum Answer {
     DayIsOpen,
 }
 
-impl Answer {
-    /// The answer to what a member may lend.
-    pub fn to_lendable(asked: Result<u64, Refusal>) -> Answer
-        ensures { result ≡ lendable_answer asked }
-    {
+/// The answer to what a member may lend.
+impl From<Result<u64, Refusal>> for Answer {
+    ghost from_gives = { λ asked answer. answer ≡ lendable_answer asked };
+
+    fn from(asked: Result<u64, Refusal>) -> Answer {
         match asked {
             Ok(face) => Answer::Lendable(face),
             Err(refusal) => Answer::Refused(refusal),
@@ -70,7 +42,7 @@ impl fmt::Display for Answer {
     fn fmt<W: fmt::Write>(&self, f: &mut fmt::Formatter<W>) -> fmt::Result {
         match *self {
             Answer::Accepted => write!(f, "ok"),
-            Answer::Refused(refusal) => write_refusal(f, refusal),
+            Answer::Refused(refusal) => write!(f, "refused {refusal}"),
             Answer::Lendable(face) => write!(f, "lendable {face}"),
             Answer::BondAmount { place, amount } => write_bond_amount(f, place, amount),
             Answer::CashAmount { account, amount } => write!(f, "C {account} {amount}"),
@@ -80,16 +52,6 @@ impl fmt::Display for Answer {
             Answer::DayIsOpen => write!(f, "day is open"),
         }
     }
-}
-
-fn write_refusal<W: fmt::Write>(f: &mut fmt::Formatter<W>, refusal: Refusal) -> fmt::Result
-    ensures { DisplaysOnOk W.write_str_gives f.old result (Some (refused_line refusal)) f.new }
-{
-    let code = refusal.cause.code();
-    let name = word(refusal.cause);
-    let spot = refusal.spot;
-    let letter = refusal.layer.letter();
-    write!(f, "refused {code} {name} at {spot} in {letter}")
 }
 
 fn write_bond_amount<W: fmt::Write>(

@@ -4,4 +4,4 @@
 
 mod answer;
 
-pub use answer::{Answer, word};
+pub use answer::Answer;

@@ -35,4 +35,4 @@ pub record Worked : Type 0 where
   pub first : first_shares (5 ∷ 3 ∷ 4 ∷ others 29) 6 ≡ 5 ∷ 1 ∷ 0 ∷ others 29
   pub even : even_shares (5 ∷ 3 ∷ 4 ∷ others 29) 6 ≡ 3 ∷ 1 ∷ 2 ∷ others 29
   -- more is lent than preset: nothing is lendable, whatever is available
-  pub none_lendable : (right : Right) (grade available : ℕ) → lendable_of (record { right = right; grade = grade; mode = Preset }) available 5 8 ≡ 0
+  pub none_lendable : (right : Right) (grade available : ℕ) (presets : List ℕ) → lendable_of (record { right = right; grade = grade; mode = Preset; presets = presets }) available 5 8 ≡ 0

@@ -11,6 +11,8 @@ mod edges;
 #[cfg(test)]
 mod money;
 #[cfg(test)]
+mod moving;
+#[cfg(test)]
 mod netted;
 #[cfg(test)]
 mod reading;

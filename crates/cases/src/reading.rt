@@ -1,19 +1,9 @@
 //! Lines of every kind and every kind of damage.
-use input::{Lines, NumberFault, number};
+use input::{Line, Lines, NumberFault, number};
 use script::*;
 use std::process::Abort;
 use std::test::Fail;
 use terms::Call;
-
-// What a word reads as: a number, or the reason that it is none.
-fn reads(word: &str) -> Result<u64, &'static str> {
-    match number(word) {
-        Ok(value) => Ok(value),
-        Err(NumberFault::Empty) => Err("empty"),
-        Err(NumberFault::NotDigits) => Err("not digits"),
-        Err(NumberFault::TooLarge) => Err("too large"),
-    }
-}
 
 #[test]
 fn numbers(rt: HostRuntime) {
@@ -22,22 +12,22 @@ fn numbers(rt: HostRuntime) {
         ("007", Ok(7)),
         ("18446744073709551615", Ok(u64::MAX)),
         ("00018446744073709551615", Ok(u64::MAX)),
-        ("18446744073709551616", Err("too large")),
-        ("99999999999999999999999", Err("too large")),
-        ("", Err("empty")),
-        ("+1", Err("not digits")),
-        ("99999999999999999999999x", Err("not digits")),
+        ("18446744073709551616", Err(NumberFault::TooLarge)),
+        ("99999999999999999999999", Err(NumberFault::TooLarge)),
+        ("", Err(NumberFault::Empty)),
+        ("+1", Err(NumberFault::NotDigits)),
+        ("99999999999999999999999x", Err(NumberFault::NotDigits)),
     ];
     for (word, value) in read {
-        assert_eq!(rt; reads(word), value);
+        assert_eq!(rt; number(word), value);
     }
 }
 
 #[test]
 fn lines(rt: HostRuntime) {
     let mut lines = Lines::new(b"a\n\nb");
-    for line in [b"a".as_slice(), b"", b"b"] {
-        assert_eq!(rt; lines.next(), Some(line));
+    for (number, text) in [(1, b"a".as_slice()), (2, b""), (3, b"b")] {
+        assert_eq!(rt; lines.next(), Some(Line { number, text }));
     }
     assert_eq!(rt; lines.number(), 3);
     assert_eq!(rt; lines.next(), None);
@@ -46,10 +36,10 @@ fn lines(rt: HostRuntime) {
 // Each line is damaged, in these words.
 fn refuses(rt: &(impl Abort + AllocGlobal), lines: &[(&[u8], &str)]) -> Result<(), Fail> {
     for (line, what) in lines {
-        match parse_line(line) {
-            Ok(_) => return Err(Fail::new(*what)),
-            Err(error) => assert_eq!(rt; format!(in rt.alloc(); "{error}")?.as_str(), *what),
-        }
+        let Err(error) = parse_line(line) else {
+            return Err(Fail::new(*what));
+        };
+        assert_eq!(rt; format!(in rt.alloc(); "{error}")?.as_str(), *what);
     }
     Ok(())
 }
@@ -97,50 +87,50 @@ fn damaged_bytes(rt: HostRuntime) -> Result<(), Fail> {
 #[test]
 fn blank_lines(rt: HostRuntime) {
     for line in ["", "   ", "# clock 1", "  #"] {
-        assert!(rt; matches!(parse_line(line.as_bytes()), Ok(None)));
+        assert_eq!(rt; parse_line(line.as_bytes()), Ok(None));
     }
-}
-
-// The numbers of a call, in the order in which it is written.
-fn call_numbers(line: &str) -> Option<[u64; 4]> {
-    let Ok(Some(Item::Call(call))) = parse_line(line.as_bytes()) else {
-        return None;
-    };
-    Some(match call {
-        Call::Clock { minute } => [minute, 0, 0, 0],
-        Call::Quota {
-            account,
-            bond,
-            face,
-        } => [account, bond, face, 0],
-        Call::Mode { account, mode } => [account, mode, 0, 0],
-        Call::Price { bond, price } => [bond, price, 0, 0],
-        Call::Deliver {
-            from,
-            to,
-            bond,
-            face,
-        } => [from, to, bond, face],
-        Call::Remit { from, to, fen } => [from, to, fen, 0],
-        Call::Shut => [0, 0, 0, 0],
-        Call::Next { day, r001 } => [day, r001, 0, 0],
-    })
 }
 
 #[test]
 fn calls(rt: HostRuntime) {
+    let (account, bond, face) = (1, 2, 3);
     let read = [
-        ("clock 18446744073709551615#end", [u64::MAX, 0, 0, 0]),
-        ("  quota  1 02   3  ", [1, 2, 3, 0]),
-        ("mode 1 2", [1, 2, 0, 0]),
-        ("price 1 2", [1, 2, 0, 0]),
-        ("deliver 1 2 3 4", [1, 2, 3, 4]),
-        ("remit 1 2 3", [1, 2, 3, 0]),
-        ("shut # the day", [0, 0, 0, 0]),
-        ("next 1 2", [1, 2, 0, 0]),
+        (
+            "clock 18446744073709551615#end",
+            Call::Clock { minute: u64::MAX },
+        ),
+        (
+            "  quota  1 02   3  ",
+            Call::Quota {
+                account,
+                bond,
+                face,
+            },
+        ),
+        ("mode 1 2", Call::Mode { account, mode: 2 }),
+        ("price 1 2", Call::Price { bond: 1, price: 2 }),
+        (
+            "deliver 1 2 3 4",
+            Call::Deliver {
+                from: 1,
+                to: 2,
+                bond: 3,
+                face: 4,
+            },
+        ),
+        (
+            "remit 1 2 3",
+            Call::Remit {
+                from: 1,
+                to: 2,
+                fen: 3,
+            },
+        ),
+        ("shut # the day", Call::Shut),
+        ("next 1 2", Call::Next { day: 1, r001: 2 }),
     ];
-    for (line, numbers) in read {
-        assert_eq!(rt; call_numbers(line), Some(numbers));
+    for (line, call) in read {
+        assert_eq!(rt; parse_line(line.as_bytes()), Ok(Some(Item::Call(call))));
     }
 }
 

@@ -40,6 +40,7 @@ pub fn worked_cases() -> WorkedFigures
         right: Right::Lend,
         grade: 0,
         mode: Mode::Preset,
+        presets: [0; 16],
     };
     WorkedFigures {
         rate,

@@ -1,22 +1,20 @@
-//! A line that cannot be read.
-use input::Lines;
-use script::{Fault, Item, LineError, parse_line};
-use std::fmt;
+//! A line that cannot be read, and why the desk stops before the end of a script.
+use script::{Fault, LineError};
+use std::error::Error;
+use std::{fmt, io};
 
 /// The number of the line, and what is wrong with it.
-#[derive(Clone, Copy)]
+#[derive(Clone, Copy, Debug, PartialEq, Eq)]
 pub struct Damage<'a> {
     pub line: u64,
     pub error: LineError<'a>,
 }
 
 impl<'a> Damage<'a> {
-    /// The line that was read last is at fault.
-    pub(crate) fn of_line(lines: &Lines<'a>, fault: Fault) -> Damage<'a> {
-        Damage {
-            line: lines.number(),
-            error: LineError::of_line(fault),
-        }
+    /// The whole line is at fault, and no word of it.
+    pub(crate) fn of_line(line: u64, fault: Fault) -> Damage<'a> {
+        let error = LineError::of_line(fault);
+        Damage { line, error }
     }
 }
 
@@ -28,13 +26,24 @@ impl<'a> fmt::Display for Damage<'a> {
     }
 }
 
-/// The item of the line that was read last; `None` where it has none.
-pub(crate) fn read<'a>(lines: &Lines<'a>, line: &'a [u8]) -> Result<Option<Item<'a>>, Damage<'a>> {
-    match parse_line(line) {
-        Ok(item) => Ok(item),
-        Err(error) => {
-            let line = lines.number();
-            Err(Damage { line, error })
-        }
+impl<'a> Error for Damage<'a> {}
+
+/// Why the desk stops.
+#[derive(Debug, Drop)]
+pub enum Stop<'a> {
+    Damaged(Damage<'a>),
+    /// An answer could not be written.
+    Unwritten(io::Error),
+}
+
+impl<'a> From<Damage<'a>> for Stop<'a> {
+    fn from(damage: Damage<'a>) -> Stop<'a> {
+        Stop::Damaged(damage)
+    }
+}
+
+impl<'a> From<io::Error> for Stop<'a> {
+    fn from(error: io::Error) -> Stop<'a> {
+        Stop::Unwritten(error)
     }
 }

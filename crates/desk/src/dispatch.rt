@@ -1,82 +1,64 @@
 //! Chooses the books and the rule of the pool.
-use crate::damage::Damage;
-use crate::output::Output;
-use crate::serve::run;
+use crate::damage::Stop;
+use crate::desk::Desk;
 use book::Book;
 use draft::Draft;
-use input::Lines;
 use netting::{NettingBonds, NettingCash};
+use pool::Pool;
 use records::Figures;
 use script::{BookKind, Opening, RuleKind};
 use share::{EvenRule, FirstRule};
 use standing::{StandingBonds, StandingCash};
 
-/// Opens the pool of a draft, and runs the rest of the script with it.
-pub(crate) fn open<'a>(
-    draft: &Draft,
-    opening: Opening,
-    lines: Lines<'a>,
-    out: &mut Output,
-) -> Result<(), Damage<'a>> {
-    let figures = draft.figures(opening);
-    match draft.bond_book {
-        BookKind::Standing => {
-            with_bonds(
-                StandingBonds::new(draft.stocks),
-                draft,
-                &figures,
-                lines,
-                out,
-            )
-        }
-        BookKind::Netting => {
-            with_bonds(NettingBonds::new(draft.stocks), draft, &figures, lines, out)
-        }
-    }
+/// What a pool is to be opened with, and the desk that runs the rest of its script with it.
+#[derive(Drop)]
+pub(crate) struct Opener<'d, 'a, 'o> {
+    draft: &'d Draft,
+    figures: Figures,
+    desk: Desk<'a, 'o>,
 }
 
-fn with_bonds<'a, B: Book + Drop>(
-    bonds: B,
-    draft: &Draft,
-    figures: &Figures,
-    lines: Lines<'a>,
-    out: &mut Output,
-) -> Result<(), Damage<'a>> {
-    let rule = draft.rule;
-    match draft.cash_book {
-        BookKind::Standing => {
-            with_books(
-                bonds,
-                StandingCash::new(draft.balances),
-                rule,
-                figures,
-                lines,
-                out,
-            )
-        }
-        BookKind::Netting => {
-            with_books(
-                bonds,
-                NettingCash::new(draft.balances),
-                rule,
-                figures,
-                lines,
-                out,
-            )
+impl<'d, 'a, 'o> Opener<'d, 'a, 'o> {
+    pub(crate) fn new(
+        draft: &'d Draft,
+        opening: Opening,
+        desk: Desk<'a, 'o>,
+    ) -> Opener<'d, 'a, 'o> {
+        Opener {
+            draft,
+            figures: draft.figures(opening),
+            desk,
         }
     }
-}
 
-fn with_books<'a, B: Book + Drop, C: Book + Drop>(
-    bonds: B,
-    cash: C,
-    rule: RuleKind,
-    figures: &Figures,
-    lines: Lines<'a>,
-    out: &mut Output,
-) -> Result<(), Damage<'a>> {
-    match rule {
-        RuleKind::First => run(bonds, cash, FirstRule, figures, lines, out),
-        RuleKind::Even => run(bonds, cash, EvenRule, figures, lines, out),
+    /// Opens the pool, and runs the rest of the script with it.
+    pub(crate) fn open(self) -> Result<(), Stop<'a>> {
+        let draft = self.draft;
+        let stocks = draft.stocks;
+        match draft.bond_book {
+            BookKind::Standing => self.with_bonds(StandingBonds::new(stocks)),
+            BookKind::Netting => self.with_bonds(NettingBonds::new(stocks)),
+        }
+    }
+
+    fn with_bonds<B: Book + Drop>(self, bonds: B) -> Result<(), Stop<'a>> {
+        let draft = self.draft;
+        let balances = draft.balances;
+        match draft.cash_book {
+            BookKind::Standing => self.with_books(bonds, StandingCash::new(balances)),
+            BookKind::Netting => self.with_books(bonds, NettingCash::new(balances)),
+        }
+    }
+
+    fn with_books<B: Book + Drop, C: Book + Drop>(self, bonds: B, cash: C) -> Result<(), Stop<'a>> {
+        let draft = self.draft;
+        match draft.rule {
+            RuleKind::First => self
+                .desk
+                .run(Pool::open(bonds, cash, FirstRule, &self.figures)),
+            RuleKind::Even => self
+                .desk
+                .run(Pool::open(bonds, cash, EvenRule, &self.figures)),
+        }
     }
 }

@@ -4,26 +4,36 @@
 #![tactic(auto)]
 
 mod damage;
+mod desk;
 mod dispatch;
-mod output;
+mod items;
 mod serve;
-mod settle;
 
-use output::Output;
-use settle::settle;
+use damage::Stop;
+use desk::Desk;
+use items::Items;
 use std::io;
-use std::io::Read;
+use std::io::{BufWriter, Read, Write};
 use std::process::ExitCode;
 
 fn main(rt: HostRuntime) -> io::Result<ExitCode> {
     let mut script = Vec::new(rt.alloc());
     rt.stdin().read_to_end(&mut script)?;
-    let mut out = Output::new(rt.alloc(), rt.stdout())?;
-    let settled = settle(script.as_slice(), &mut out);
-    out.finish()?;
-    if let Err(damage) = settled {
-        eprintln!(rt; "{damage}")?;
-        return Ok(ExitCode::FAILURE);
+    let mut out = BufWriter::new(rt.alloc(), rt.stdout())?;
+    let desk = Desk {
+        items: Items::new(script.as_slice()),
+        out: &mut out,
+    };
+    match desk.settle() {
+        Ok(()) => {
+            out.flush()?;
+            Ok(ExitCode::SUCCESS)
+        }
+        Err(Stop::Damaged(damage)) => {
+            out.flush()?;
+            eprintln!(rt; "{damage}")?;
+            Ok(ExitCode::FAILURE)
+        }
+        Err(Stop::Unwritten(error)) => Err(error),
     }
-    Ok(ExitCode::SUCCESS)
 }

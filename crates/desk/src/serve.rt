@@ -1,62 +1,58 @@
 //! Runs a script with any pool.
-use crate::damage::{Damage, read};
-use crate::output::Output;
-use crate::settle::run_without_pool;
+use crate::damage::Stop;
+use crate::desk::{Desk, Output, opening_after_open};
 use answers::Answer;
 use book::Book;
-use input::Lines;
 use life::{Outcome, Stepped, step};
-use pool::{Day, Pool};
-use records::Figures;
-use script::{Fault, Item};
+use pool::{Day, OpenDay, Pool, Unopened};
+use script::Item;
 use share::SharingRule;
+use std::io;
+use std::io::Write;
 
-/// Opens a pool, and runs the rest of a script with it.
-pub(crate) fn run<'a, B: Book + Drop, C: Book + Drop, S: SharingRule + Drop>(
-    bonds: B,
-    cash: C,
-    rule: S,
-    figures: &Figures,
-    lines: Lines<'a>,
-    out: &mut Output,
-) -> Result<(), Damage<'a>> {
-    match Pool::open(bonds, cash, rule, figures) {
-        Ok((pool, day)) => {
-            out.answer(Answer::Accepted);
-            serve(pool, Day::Open(day), lines, out)
-        }
-        Err(unopened) => {
-            out.answer(Answer::Refused(unopened.refusal));
-            run_without_pool(lines, out)
-        }
-    }
-}
-
-fn serve<'a, B: Book + Drop, C: Book + Drop, S: SharingRule + Drop>(
-    mut pool: Pool<B, C, S>,
-    mut day: Day,
-    mut lines: Lines<'a>,
-    out: &mut Output,
-) -> Result<(), Damage<'a>> {
-    while let Some(line) = lines.next() {
-        match read(&lines, line)? {
-            None => {}
-            Some(Item::Call(call)) => {
-                let Stepped { day: next, outcome } = step(&mut pool, day, call);
-                out.answer(answer_to(outcome, &next));
-                day = next;
+impl<'a, 'o> Desk<'a, 'o> {
+    /// Tells whether a pool was opened, and runs the rest of a script with it, if it was.
+    pub(crate) fn run<B: Book + Drop, C: Book + Drop, S: SharingRule + Drop>(
+        self,
+        opened: Result<(Pool<B, C, S>, OpenDay), Unopened<B, C, S>>,
+    ) -> Result<(), Stop<'a>> {
+        match opened {
+            Ok((pool, day)) => {
+                writeln!(self.out, "{}", Answer::Accepted)?;
+                self.serve(pool, Day::Open(day))
             }
-            Some(Item::Amounts) => write_amounts(&pool, out),
-            Some(Item::Lendable { account, bond }) => {
-                out.answer(Answer::to_lendable(pool.lendable(account, bond)));
-            }
-            Some(Item::Say(text)) => out.say(text),
-            Some(Item::Part(_) | Item::Open(_)) => {
-                return Err(Damage::of_line(&lines, Fault::OpeningAfterOpen));
+            Err(unopened) => {
+                writeln!(self.out, "{}", Answer::Refused(unopened.refusal))?;
+                self.run_without_pool()
             }
         }
     }
-    Ok(())
+
+    // A loop of its own beside `run_without_pool`: one for both would keep the pool in an Option, and look into it at
+    // every item.
+    fn serve<B: Book + Drop, C: Book + Drop, S: SharingRule + Drop>(
+        self,
+        mut pool: Pool<B, C, S>,
+        mut day: Day,
+    ) -> Result<(), Stop<'a>> {
+        for item in self.items {
+            let (line, item) = item?;
+            match item {
+                Item::Part(_) | Item::Open(_) => return Err(opening_after_open(line)),
+                Item::Call(call) => {
+                    let Stepped { day: next, outcome } = step(&mut pool, day, call);
+                    writeln!(self.out, "{}", answer_to(outcome, &next))?;
+                    day = next;
+                }
+                Item::Amounts => write_amounts(&pool, self.out)?,
+                Item::Lendable { account, bond } => {
+                    writeln!(self.out, "{}", Answer::from(pool.lendable(account, bond)))?;
+                }
+                Item::Say(text) => writeln!(self.out, "{text}")?,
+            }
+        }
+        Ok(())
+    }
 }
 
 // What the desk writes of a call: one that was not made names the kind of day that the desk still holds.
@@ -69,19 +65,21 @@ fn answer_to(outcome: Outcome, day: &Day) -> Answer {
     }
 }
 
-// Every amount of the books that is not 0, in rising order of place.
-fn write_amounts<B: Book, C: Book, S: SharingRule>(pool: &Pool<B, C, S>, out: &mut Output) {
+// Every amount of the books that is not 0, in rising order of place. Two loops, since each book is asked by a call of
+// its own and told by an answer of its own.
+fn write_amounts<B: Book, C: Book, S: SharingRule>(
+    pool: &Pool<B, C, S>,
+    out: &mut Output,
+) -> io::Result<()> {
     for place in 0..1024 {
-        let amount = pool.bond_amount(place).unwrap_or(0);
-        if amount != 0 {
-            out.answer(Answer::BondAmount { place, amount });
+        if let Some(amount) = pool.bond_amount(place).filter(|amount| *amount != 0) {
+            writeln!(out, "{}", Answer::BondAmount { place, amount })?;
         }
     }
     for account in 0..32 {
-        let amount = pool.cash_amount(account).unwrap_or(0);
-        if amount != 0 {
-            out.answer(Answer::CashAmount { account, amount });
+        if let Some(amount) = pool.cash_amount(account).filter(|amount| *amount != 0) {
+            writeln!(out, "{}", Answer::CashAmount { account, amount })?;
         }
     }
-    out.answer(Answer::End);
+    writeln!(out, "{}", Answer::End)
 }

@@ -4,7 +4,6 @@ use Rattle.tables.specs.declared.account.AccountFigures.{AccountFigures}
 use Rattle.tables.specs.declared.bond.BondFigures.{BondFigures}
 use Rattle.records.specs.declared.opening.Figures.{Figures}
 use Rattle.book.specs.Places.{available, pledged}
-use Rattle.draft.specs.declared.plan.Draft.{Draft}
 use Rattle.script.specs.declared.fault.Fault.{Fault}
 use Rattle.script.specs.declared.fault.Fault.TheVariants.{NoAccount, NoBond}
 use Rattle.script.specs.declared.item.BookKind.{BookKind}
@@ -15,6 +14,7 @@ use Rattle.script.specs.declared.item.Opening.{Opening}
 use Rattle.script.specs.declared.item.OpeningPart.{OpeningPart}
 use Rattle.script.specs.declared.item.OpeningPart.TheVariants as part
 
+-- the kinds of the books, the rule, and the figures and amounts of the opening
 pub record Plan : Type 0 where
   pub bond_book : BookKind
   pub cash_book : BookKind
@@ -23,17 +23,6 @@ pub record Plan : Type 0 where
   pub bonds : List BondFigures
   pub stocks : List ℕ
   pub balances : List ℕ
-
-abbrev pub plan_of : Draft → Plan
-plan_of d = record {
-  bond_book = d.bond_book;
-  cash_book = d.cash_book;
-  rule = d.rule;
-  accounts = d.accounts;
-  bonds = d.bonds;
-  stocks = d.stocks;
-  balances = d.balances;
-}
 
 -- n rows, all alike. It stays shut, so that no goal writes them out.
 unfoldable pub every : {X : Type 0} → ℕ → X → List X
@@ -51,13 +40,17 @@ blank_plan = record {
   balances = every 32 0;
 }
 
+-- rows are numbered from 0, so row n is missing where there are no more than n
+abbrev pub missing : ℕ → ℕ → Fault → List (Bool × Fault)
+missing count n fault = (leb count n, fault) ∷ []
+
 -- accounts are 0 to 31
 abbrev pub account_faults : ℕ → List (Bool × Fault)
-account_faults n = (leb 32 n, NoAccount n) ∷ []
+account_faults n = missing 32 n (NoAccount n)
 
 -- bonds are 0 to 15
 abbrev pub bond_faults : ℕ → List (Bool × Fault)
-bond_faults n = (leb 16 n, NoBond n) ∷ []
+bond_faults n = missing 16 n (NoBond n)
 
 -- what may be wrong with a line of the opening, the first fault first
 abbrev pub part_faults : OpeningPart → List (Bool × Fault)
@@ -70,60 +63,12 @@ part_faults (part.Balance a fen) = account_faults a
 
 -- the plan after a line of the opening: only what the line speaks of has changed
 abbrev pub planned : Plan → OpeningPart → Plan
-planned p (part.Books b c) = record {
-  bond_book = b;
-  cash_book = c;
-  rule = p.rule;
-  accounts = p.accounts;
-  bonds = p.bonds;
-  stocks = p.stocks;
-  balances = p.balances;
-}
-planned p (part.Rule r) = record {
-  bond_book = p.bond_book;
-  cash_book = p.cash_book;
-  rule = r;
-  accounts = p.accounts;
-  bonds = p.bonds;
-  stocks = p.stocks;
-  balances = p.balances;
-}
-planned p (part.Account a f) = record {
-  bond_book = p.bond_book;
-  cash_book = p.cash_book;
-  rule = p.rule;
-  accounts = set p.accounts a f;
-  bonds = p.bonds;
-  stocks = p.stocks;
-  balances = p.balances;
-}
-planned p (part.Bond b f) = record {
-  bond_book = p.bond_book;
-  cash_book = p.cash_book;
-  rule = p.rule;
-  accounts = p.accounts;
-  bonds = set p.bonds b f;
-  stocks = p.stocks;
-  balances = p.balances;
-}
-planned p (part.Stock a b x y) = record {
-  bond_book = p.bond_book;
-  cash_book = p.cash_book;
-  rule = p.rule;
-  accounts = p.accounts;
-  bonds = p.bonds;
-  stocks = set (set p.stocks (available a b) x) (pledged a b) y;
-  balances = p.balances;
-}
-planned p (part.Balance a fen) = record {
-  bond_book = p.bond_book;
-  cash_book = p.cash_book;
-  rule = p.rule;
-  accounts = p.accounts;
-  bonds = p.bonds;
-  stocks = p.stocks;
-  balances = set p.balances a fen;
-}
+planned p (part.Books b c) = record p { bond_book = b; cash_book = c }
+planned p (part.Rule r) = record p { rule = r }
+planned p (part.Account a f) = record p { accounts = set p.accounts a f }
+planned p (part.Bond b f) = record p { bonds = set p.bonds b f }
+planned p (part.Stock a b x y) = record p { stocks = set (set p.stocks (available a b) x) (pledged a b) y }
+planned p (part.Balance a fen) = record p { balances = set p.balances a fen }
 
 -- the figures of a plan, with those of the line that opens the pool
 abbrev pub figures_of : Plan → Opening → Figures

@@ -1,7 +1,7 @@
 //! Collects what a pool is to be opened with, line by line.
-ghost use Rattle.std.specs.Prelude.{length, ◌≡◌};
+ghost use Rattle.std.specs.Prelude.{◌≡◌, ◌++◌, length, set};
 ghost use Rattle.terms.specs.Table.{first_of, answered, settled};
-ghost use Rattle.draft.specs.Drafts.{every, plan_of, blank_plan, account_faults, bond_faults, part_faults, planned, figures_of};
+ghost use Rattle.draft.specs.Drafts.{blank_plan, missing, account_faults, bond_faults, part_faults, planned, figures_of};
 
 use crate::plan::Draft;
 use book::{available_place, pledged_place};
@@ -11,8 +11,9 @@ use tables::{AccountFigures, BondFigures};
 
 impl Draft {
     /// What stands where no line says otherwise.
+    #[tactic(auto, unfolding(crate::specs::Drafts::every))]
     pub fn new() -> Draft
-        ensures { plan_of result ≡ blank_plan }
+        ensures { result ≡ blank_plan }
     {
         let nobody = AccountFigures { right: 0, grade: 0 };
         let nothing = BondFigures {
@@ -28,10 +29,10 @@ impl Draft {
             bond_book: BookKind::Standing,
             cash_book: BookKind::Standing,
             rule: RuleKind::First,
-            accounts: rows::<_, 32>(nobody),
-            bonds: rows::<_, 16>(nothing),
-            stocks: rows::<_, 1024>(0),
-            balances: rows::<_, 32>(0),
+            accounts: [nobody; 32],
+            bonds: [nothing; 16],
+            stocks: [0; 1024],
+            balances: [0; 32],
         }
     }
 
@@ -39,25 +40,24 @@ impl Draft {
     /// changes nothing.
     pub fn take(&mut self, part: OpeningPart) -> Result<(), Fault>
         ensures answer { result ≡ answered (first_of (part_faults part)) tt }
-        ensures after { plan_of self.new ≡ settled (first_of (part_faults part)) (plan_of self.old) (planned (plan_of self.old) part) }
+        ensures after { self.new ≡ settled (first_of (part_faults part)) self.old (planned self.old part) }
     {
         match part {
             OpeningPart::Books { bonds, cash } => {
                 self.bond_book = bonds;
                 self.cash_book = cash;
-                Ok(())
             }
-            OpeningPart::Rule(rule) => {
-                self.rule = rule;
-                Ok(())
-            }
+            OpeningPart::Rule(rule) => self.rule = rule,
             OpeningPart::Account { account, figures } => {
-                self.accounts[account_number(account)? as usize] = figures;
-                Ok(())
+                put(
+                    &mut self.accounts,
+                    account,
+                    figures,
+                    Fault::NoAccount(account),
+                )?;
             }
             OpeningPart::Bond { bond, figures } => {
-                self.bonds[bond_number(bond)? as usize] = figures;
-                Ok(())
+                put(&mut self.bonds, bond, figures, Fault::NoBond(bond))?;
             }
             OpeningPart::Stock {
                 account,
@@ -65,21 +65,20 @@ impl Draft {
                 available,
                 pledged,
             } => {
-                let (account, bond) = (account_number(account)?, bond_number(bond)?);
+                let (account, bond) = stock_row(account, bond)?;
                 self.stocks[available_place(account, bond)] = available;
                 self.stocks[pledged_place(account, bond)] = pledged;
-                Ok(())
             }
             OpeningPart::Balance { account, fen } => {
-                self.balances[account_number(account)? as usize] = fen;
-                Ok(())
+                put(&mut self.balances, account, fen, Fault::NoAccount(account))?;
             }
         }
+        Ok(())
     }
 
     /// The figures with which the pool is opened.
     pub fn figures(&self, opening: Opening) -> Figures
-        ensures { result ≡ figures_of (plan_of self.now) opening }
+        ensures { result ≡ figures_of self.now opening }
     {
         Figures {
             accounts: self.accounts,
@@ -93,30 +92,29 @@ impl Draft {
     }
 }
 
-// N rows, all alike.
-fn rows<T: Copy, const N: usize>(row: T) -> [T; N]
-    ensures value { result ≡ every N row }
-    ensures sized { length result ≡ N }
+// Puts a row into its place, or gives the fault where there is no such place.
+fn put<X: Drop>(rows: &mut [X], place: u64, row: X, fault: Fault) -> Result<(), Fault>
+    ensures answer { result ≡ answered (first_of (missing (length rows.old) place fault)) tt }
+    ensures after { rows.new ≡ settled (first_of (missing (length rows.old) place fault)) rows.old (set rows.old place row) }
 {
-    [row; N]
+    // The place is tested, since no clause of `get_mut` says what the rows hold after it.
+    let place = place as usize;
+    if place >= rows.len() {
+        return Err(fault);
+    }
+    rows[place] = row;
+    Ok(())
 }
 
-fn account_number(n: u64) -> Result<u8, Fault>
-    ensures { result ≡ answered (first_of (account_faults n)) n }
+// The numbers of an account and a bond, which are in range.
+fn stock_row(account: u64, bond: u64) -> Result<(u8, u8), Fault>
+    ensures { result ≡ answered (first_of (account_faults account ++ bond_faults bond)) (account, bond) }
 {
-    if n < 32 {
-        Ok(n as u8)
-    } else {
-        Err(Fault::NoAccount(n))
+    if account >= 32 {
+        return Err(Fault::NoAccount(account));
     }
-}
-
-fn bond_number(n: u64) -> Result<u8, Fault>
-    ensures { result ≡ answered (first_of (bond_faults n)) n }
-{
-    if n < 16 {
-        Ok(n as u8)
-    } else {
-        Err(Fault::NoBond(n))
+    if bond >= 16 {
+        return Err(Fault::NoBond(bond));
     }
+    Ok((account as u8, bond as u8))
 }

@@ -1,7 +1,6 @@
 //! What a pool is to be opened with.
-ghost use Rattle.std.specs.Prelude.{length, ◌≡◌};
-
 use script::{BookKind, RuleKind};
+use std::marker::Model;
 use tables::{AccountFigures, BondFigures};
 
 /// The kinds of the books, the rule, and the figures and amounts of the opening.
@@ -16,8 +15,15 @@ pub struct Draft {
     pub stocks: [u64; 1024],
     /// The amounts of the cash book, account by account.
     pub balances: [u64; 32],
-    ghost accounted: { length accounts ≡ 32 },
-    ghost bonded: { length bonds ≡ 16 },
-    ghost stocked: { length stocks ≡ 1024 },
-    ghost balanced: { length balances ≡ 32 },
+}
+
+impl Model for Draft {
+    ghost use Rattle.std.specs.Prelude.{◌≡◌, length};
+    ghost use Rattle.draft.specs.Drafts.{Plan};
+
+    ghost Value = { Plan };
+
+    ghost view = { λ d. record { bond_book = d.bond_book; cash_book = d.cash_book; rule = d.rule; accounts = d.accounts; bonds = d.bonds; stocks = d.stocks; balances = d.balances } };
+
+    ghost invariant = { λ d. (length d.accounts ≡ 32) × (length d.bonds ≡ 16) × (length d.stocks ≡ 1024) × (length d.balances ≡ 32) };
 }

@@ -5,5 +5,5 @@
 mod lines;
 mod numbers;
 
-pub use lines::Lines;
+pub use lines::{Line, Lines};
 pub use numbers::{NumberFault, number};

@@ -1,6 +1,16 @@
 //! The lines of a script, one after another, with their numbers.
-ghost use Rattle.std.specs.Prelude.{◌≡◌, ◌+◌, ◌-◌, ◌^◌, ◌<◌, ◌≤◌, min, true, length, take, drop, is_some, if◌then◌else◌, MatchOption};
-ghost use Rattle.input.specs.Lines.{up_to, past};
+ghost use Rattle.std.specs.Prelude.{◌≡◌, ◌==◌, ◌<◌, length, position, IfSome};
+ghost use Rattle.std.specs.Iterator.{at_most};
+ghost use Rattle.input.specs.Lines.{up_to, past, ReadsLine};
+
+/// A line of a script.
+#[derive(Clone, Copy, Debug, PartialEq, Eq)]
+pub struct Line<'a> {
+    /// The number of the line, from 1.
+    pub number: u64,
+    /// The bytes of the line, without the one that ends it.
+    pub text: &'a [u8],
+}
 
 /// What is still to be read of a script, and the number of the line that was read last.
 #[derive(Clone, Copy)]
@@ -27,14 +37,17 @@ impl<'a> Lines<'a> {
     {
         self.number
     }
+}
 
-    /// The next line, without the byte that ends it; `None` exactly when nothing is left.
-    pub fn next(&mut self) -> Option<&'a [u8]>
-        ensures line { MatchOption result (length self.old.rest.now ≡ 0) (λ line. (0 < length self.old.rest.now) × (line.now ≡ up_to 10 self.old.rest.now)) }
-        ensures rest { self.new.rest.now ≡ (if is_some result then past 10 self.old.rest.now else self.old.rest.now) }
-        ensures number { self.new.number ≡ (if is_some result then min (self.old.number + 1) (2 ^ 64 - 1) else self.old.number) }
-        ensures shorter { is_some result ≡ true → length self.new.rest.now < length self.old.rest.now }
-    {
+/// Gives the next line; `None` exactly when nothing is left.
+impl<'a> Iterator for Lines<'a> {
+    type Item = Line<'a>;
+
+    ghost next_gives = { ReadsLine };
+
+    ghost remaining = { λ lines. at_most (length lines.rest.now) };
+
+    fn next(&mut self) -> Option<Line<'a>> {
         let Lines { rest, number } = *self;
         if rest.is_empty() {
             return None;
@@ -42,7 +55,7 @@ impl<'a> Lines<'a> {
         let (line, rest) = split_line(rest);
         let number = number.saturating_add(1);
         *self = Lines { rest, number };
-        Some(line)
+        Some(Line { number, text: line })
     }
 }
 
@@ -52,31 +65,16 @@ fn split_line(bytes: &[u8]) -> (&[u8], &[u8])
     ensures rest { result.1.now ≡ past 10 bytes.now }
     ensures shorter { 0 < length bytes.now → length result.1.now < length bytes.now }
 {
-    let end = line_end(bytes);
-    (&bytes[0..end], after(bytes, end))
+    match line_end(bytes) {
+        Some(end) => (&bytes[..end], &bytes[end + 1..]),
+        None => (bytes, &[]),
+    }
 }
 
-// Where the first line ends: at the byte 10, or at the end.
-fn line_end(bytes: &[u8]) -> usize
-    ensures within { result ≤ length bytes.now }
-    ensures before { take result bytes.now ≡ up_to 10 bytes.now }
-    ensures after { drop (result + 1) bytes.now ≡ past 10 bytes.now }
+// Where the byte lies that ends the first line.
+fn line_end(bytes: &[u8]) -> Option<usize>
+    ensures place { result ≡ position (λ b. b == 10) bytes.now }
+    ensures within { IfSome result (λ end. end < length bytes.now) }
 {
-    for (i, b) in bytes.iter().enumerate() {
-        if *b == b'\n' {
-            return i;
-        }
-    }
-    bytes.len()
-}
-
-// What follows the byte at a place.
-fn after(bytes: &[u8], place: usize) -> &[u8]
-    ensures { result.now ≡ drop (place + 1) bytes.now }
-{
-    if place < bytes.len() {
-        &bytes[place + 1..]
-    } else {
-        &[]
-    }
+    bytes.iter().position(|b| *b == b'\n')
 }

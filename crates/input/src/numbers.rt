@@ -1,10 +1,11 @@
 //! A number of a script: decimal digits that write a value below 2^64.
 ghost use Rattle.std.specs.Prelude.{◌≡◌};
-ghost use Rattle.std.specs.Str.{all_ascii_digits};
+ghost use Rattle.std.specs.List.{list_all};
+ghost use Rattle.std.specs.Char.{is_ascii_digit};
 ghost use Rattle.input.specs.Numbers.{reading};
 
 /// Why a word is no number.
-#[derive(Clone, Copy)]
+#[derive(Clone, Copy, Debug, PartialEq, Eq)]
 pub enum NumberFault {
     Empty,
     NotDigits,
@@ -21,19 +22,11 @@ pub fn number(word: &str) -> Result<u64, NumberFault>
     if !is_all_digits(word.as_bytes()) {
         return Err(NumberFault::NotDigits);
     }
-    match word.parse::<u64>() {
-        Ok(value) => Ok(value),
-        Err(_) => Err(NumberFault::TooLarge),
-    }
+    word.parse::<u64>().map_err(|_| NumberFault::TooLarge)
 }
 
 fn is_all_digits(word: &[u8]) -> bool
-    ensures { result ≡ all_ascii_digits word.now }
+    ensures { result ≡ list_all is_ascii_digit word.now }
 {
-    for b in word {
-        if !b.is_ascii_digit() {
-            return false;
-        }
-    }
-    true
+    word.iter().all(|b| b.is_ascii_digit())
 }

@@ -1,10 +1,13 @@
 //! Why a line cannot be read.
-ghost use Rattle.std.specs.Prelude.{◌≡◌, []};
+ghost use Rattle.std.specs.Prelude.{◌≡◌, Some, None};
+ghost use Rattle.script.specs.Faults.{fault_of, fault_text, error_text};
 
+use input::NumberFault;
+use std::error::Error;
 use std::fmt;
 
 /// The kinds of damage.
-#[derive(Clone, Copy)]
+#[derive(Clone, Copy, Debug, PartialEq, Eq)]
 pub enum Fault {
     NotText,
     CarriageReturn,
@@ -21,50 +24,77 @@ pub enum Fault {
     OpeningAfterOpen,
 }
 
-impl Fault {
-    fn phrase(self) -> &'static str {
-        match self {
-            Fault::NotText => "not text",
-            Fault::CarriageReturn => "carriage return at the end of the line",
-            Fault::ControlCharacter => "control character",
-            Fault::UnknownWord => "unknown word",
-            Fault::MissingWord => "missing word",
-            Fault::MissingNumber => "missing number",
-            Fault::ExtraWord => "extra word",
-            Fault::NotNumber => "not a number",
-            Fault::TooLarge => "number too large",
-            Fault::NoAccount(_) => "no account",
-            Fault::NoBond(_) => "no bond",
-            Fault::OpeningAfterOpen => "opening line after open",
+impl fmt::Display for Fault {
+    ghost output = { λ fault. Some (fault_text fault) };
+
+    fn fmt<W: fmt::Write>(&self, f: &mut fmt::Formatter<W>) -> fmt::Result {
+        match *self {
+            Fault::NotText => write!(f, "not text"),
+            Fault::CarriageReturn => write!(f, "carriage return at the end of the line"),
+            Fault::ControlCharacter => write!(f, "control character"),
+            Fault::UnknownWord => write!(f, "unknown word"),
+            Fault::MissingWord => write!(f, "missing word"),
+            Fault::MissingNumber => write!(f, "missing number"),
+            Fault::ExtraWord => write!(f, "extra word"),
+            Fault::NotNumber => write!(f, "not a number"),
+            Fault::TooLarge => write!(f, "number too large"),
+            Fault::NoAccount(account) => write!(f, "no account {account}"),
+            Fault::NoBond(bond) => write!(f, "no bond {bond}"),
+            Fault::OpeningAfterOpen => write!(f, "opening line after open"),
         }
     }
 }
 
-/// What is wrong with a line, and the word that is wrong; empty where it is no word.
-#[derive(Clone, Copy)]
+impl Error for Fault {}
+
+/// A word that writes no number damages its line.
+impl From<NumberFault> for Fault {
+    ghost from_gives = { λ number fault. fault ≡ fault_of number };
+
+    fn from(number: NumberFault) -> Fault {
+        match number {
+            NumberFault::Empty => Fault::MissingNumber,
+            NumberFault::NotDigits => Fault::NotNumber,
+            NumberFault::TooLarge => Fault::TooLarge,
+        }
+    }
+}
+
+/// What is wrong with a line, and the word that is wrong, if it is one.
+#[derive(Clone, Copy, Debug, PartialEq, Eq)]
 pub struct LineError<'a> {
     pub fault: Fault,
-    pub word: &'a str,
+    pub word: Option<&'a str>,
 }
 
 impl<'a> LineError<'a> {
     /// A damage that lies in no word.
     pub fn of_line(fault: Fault) -> LineError<'a>
         ensures fault { result.fault ≡ fault }
-        ensures word { result.word.now ≡ [] }
+        ensures word { result.word ≡ None }
     {
-        LineError { fault, word: "" }
+        LineError { fault, word: None }
+    }
+
+    // A damage that lies in a word.
+    pub(crate) fn of_word(fault: Fault, word: &'a str) -> LineError<'a> {
+        LineError {
+            fault,
+            word: Some(word),
+        }
     }
 }
 
 impl<'a> fmt::Display for LineError<'a> {
+    ghost output = { λ error. Some (error_text error) };
+
     fn fmt<W: fmt::Write>(&self, f: &mut fmt::Formatter<W>) -> fmt::Result {
-        let word = self.word;
-        let phrase = self.fault.phrase();
-        match self.fault {
-            Fault::NoAccount(n) | Fault::NoBond(n) => write!(f, "{phrase} {n}"),
-            _ if word.is_empty() => write!(f, "{phrase}"),
-            _ => write!(f, "{phrase} '{word}'"),
+        let fault = self.fault;
+        match self.word {
+            None => write!(f, "{fault}"),
+            Some(word) => write!(f, "{fault} '{word}'"),
         }
     }
 }
+
+impl<'a> Error for LineError<'a> {}

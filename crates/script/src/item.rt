@@ -1,23 +1,55 @@
 //! The items of a script, one to a line.
+ghost use Rattle.script.specs.Kinds.{BookRead, RuleRead};
+
+use crate::fault::Fault;
+use std::str::FromStr;
 use tables::{AccountFigures, BondFigures};
 use terms::Call;
 
 /// How a book keeps its amounts.
-#[derive(Clone, Copy)]
+#[derive(Clone, Copy, Debug, PartialEq, Eq)]
 pub enum BookKind {
     Standing,
     Netting,
 }
 
+impl FromStr for BookKind {
+    type Err = Fault;
+
+    ghost from_str_gives = { BookRead };
+
+    fn from_str(word: &str) -> Result<BookKind, Fault> {
+        match word {
+            "standing" => Ok(BookKind::Standing),
+            "netting" => Ok(BookKind::Netting),
+            _ => Err(Fault::UnknownWord),
+        }
+    }
+}
+
 /// How a want is shared.
-#[derive(Clone, Copy)]
+#[derive(Clone, Copy, Debug, PartialEq, Eq)]
 pub enum RuleKind {
     First,
     Even,
 }
 
+impl FromStr for RuleKind {
+    type Err = Fault;
+
+    ghost from_str_gives = { RuleRead };
+
+    fn from_str(word: &str) -> Result<RuleKind, Fault> {
+        match word {
+            "first" => Ok(RuleKind::First),
+            "even" => Ok(RuleKind::Even),
+            _ => Err(Fault::UnknownWord),
+        }
+    }
+}
+
 /// One line of the opening part. Any account and any bond may stand here.
-#[derive(Clone, Copy)]
+#[derive(Clone, Copy, Debug, PartialEq, Eq)]
 pub enum OpeningPart {
     Books {
         bonds: BookKind,
@@ -45,7 +77,7 @@ pub enum OpeningPart {
 }
 
 /// The figures of the line that opens the pool.
-#[derive(Clone, Copy)]
+#[derive(Clone, Copy, Debug, PartialEq, Eq)]
 pub struct Opening {
     pub longest_term: u64,
     pub most_loans: u64,
@@ -55,7 +87,7 @@ pub struct Opening {
 }
 
 /// What one line of a script asks for.
-#[derive(Clone, Copy)]
+#[derive(Clone, Copy, Debug, PartialEq, Eq)]
 pub enum Item<'a> {
     Part(OpeningPart),
     Open(Opening),

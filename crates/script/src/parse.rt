@@ -19,14 +19,10 @@ pub fn parse_line(line: &[u8]) -> Result<Option<Item<'_>>, LineError<'_>>
         return Ok(Some(Item::Say(said)));
     }
     let mut words = Words::new(before_comment(text));
-    let word = words.next();
-    if word.is_empty() {
+    let Some(keyword) = words.next() else {
         return Ok(None);
-    }
-    let Some(item) = parse_item(word, &mut words) else {
-        let fault = Fault::UnknownWord;
-        return Err(LineError { fault, word });
     };
+    let item = parse_item(keyword, &mut words)?;
     words.end()?;
     Ok(Some(item))
 }
@@ -42,131 +38,131 @@ fn readable(line: &[u8]) -> Result<&str, LineError<'_>>
     if let [.., b'\r'] = line {
         return Err(LineError::of_line(Fault::CarriageReturn));
     }
-    for c in text.chars() {
-        if c.is_control() {
-            return Err(LineError::of_line(Fault::ControlCharacter));
-        }
+    if text.chars().any(|c| c.is_control()) {
+        return Err(LineError::of_line(Fault::ControlCharacter));
     }
     Ok(text)
 }
 
 fn before_comment(text: &str) -> &str {
-    match text.split_once('#') {
-        Some((before, _)) => before,
-        None => text,
+    text.split_once('#').map_or(text, |(before, _)| before)
+}
+
+// The item that a keyword begins.
+fn parse_item<'a>(keyword: &'a str, words: &mut Words<'a>) -> Result<Item<'a>, LineError<'a>> {
+    if let Some(call) = parse_call(keyword, words)? {
+        return Ok(Item::Call(call));
+    }
+    if let Some(part) = parse_part(keyword, words)? {
+        return Ok(Item::Part(part));
+    }
+    match keyword {
+        "open" => Ok(Item::Open(parse_opening(words)?)),
+        "amounts" => Ok(Item::Amounts),
+        "lendable" => Ok(Item::Lendable {
+            account: words.number()?,
+            bond: words.number()?,
+        }),
+        "say" => Ok(Item::Say("")),
+        _ => Err(LineError::of_word(Fault::UnknownWord, keyword)),
     }
 }
 
-// The item that a keyword begins; `None` where no item begins so.
-fn parse_item<'a>(keyword: &str, words: &mut Words<'a>) -> Option<Item<'a>> {
-    if let Some(call) = parse_call(keyword, words) {
-        return Some(Item::Call(call));
-    }
-    if let Some(part) = parse_part(keyword, words) {
-        return Some(Item::Part(part));
-    }
-    match keyword {
-        "open" => Some(Item::Open(parse_opening(words))),
-        "amounts" => Some(Item::Amounts),
-        "lendable" => Some(Item::Lendable {
-            account: words.number(),
-            bond: words.number(),
-        }),
-        "say" => Some(Item::Say("")),
-        _ => None,
-    }
+// The call that a keyword begins; `None` where no call begins so.
+fn parse_call<'a>(keyword: &str, words: &mut Words<'a>) -> Result<Option<Call>, LineError<'a>> {
+    let call = match keyword {
+        "clock" => Call::Clock {
+            minute: words.number()?,
+        },
+        "quota" => Call::Quota {
+            account: words.number()?,
+            bond: words.number()?,
+            face: words.number()?,
+        },
+        "mode" => Call::Mode {
+            account: words.number()?,
+            mode: words.number()?,
+        },
+        "price" => Call::Price {
+            bond: words.number()?,
+            price: words.number()?,
+        },
+        "deliver" => Call::Deliver {
+            from: words.number()?,
+            to: words.number()?,
+            bond: words.number()?,
+            face: words.number()?,
+        },
+        "remit" => Call::Remit {
+            from: words.number()?,
+            to: words.number()?,
+            fen: words.number()?,
+        },
+        "shut" => Call::Shut,
+        "next" => Call::Next {
+            day: words.number()?,
+            r001: words.number()?,
+        },
+        _ => return Ok(None),
+    };
+    Ok(Some(call))
 }
 
-// The call that a keyword begins.
-fn parse_call(keyword: &str, words: &mut Words<'_>) -> Option<Call> {
-    match keyword {
-        "clock" => Some(Call::Clock {
-            minute: words.number(),
-        }),
-        "quota" => Some(Call::Quota {
-            account: words.number(),
-            bond: words.number(),
-            face: words.number(),
-        }),
-        "mode" => Some(Call::Mode {
-            account: words.number(),
-            mode: words.number(),
-        }),
-        "price" => Some(Call::Price {
-            bond: words.number(),
-            price: words.number(),
-        }),
-        "deliver" => Some(Call::Deliver {
-            from: words.number(),
-            to: words.number(),
-            bond: words.number(),
-            face: words.number(),
-        }),
-        "remit" => Some(Call::Remit {
-            from: words.number(),
-            to: words.number(),
-            fen: words.number(),
-        }),
-        "shut" => Some(Call::Shut),
-        "next" => Some(Call::Next {
-            day: words.number(),
-            r001: words.number(),
-        }),
-        _ => None,
-    }
-}
-
-// The part of the opening that a keyword begins.
-fn parse_part(keyword: &str, words: &mut Words<'_>) -> Option<OpeningPart> {
-    match keyword {
-        "books" => Some(OpeningPart::Books {
-            bonds: words.book(),
-            cash: words.book(),
-        }),
-        "rule" => Some(OpeningPart::Rule(words.rule())),
-        "account" => Some(OpeningPart::Account {
-            account: words.number(),
+// The part of the opening that a keyword begins; `None` where no part begins so.
+fn parse_part<'a>(
+    keyword: &str,
+    words: &mut Words<'a>,
+) -> Result<Option<OpeningPart>, LineError<'a>> {
+    let part = match keyword {
+        "books" => OpeningPart::Books {
+            bonds: words.kind()?,
+            cash: words.kind()?,
+        },
+        "rule" => OpeningPart::Rule(words.kind()?),
+        "account" => OpeningPart::Account {
+            account: words.number()?,
             figures: AccountFigures {
-                right: words.number(),
-                grade: words.number(),
+                right: words.number()?,
+                grade: words.number()?,
             },
-        }),
-        "bond" => Some(OpeningPart::Bond {
-            bond: words.number(),
-            figures: parse_bond(words),
-        }),
-        "stock" => Some(OpeningPart::Stock {
-            account: words.number(),
-            bond: words.number(),
-            available: words.number(),
-            pledged: words.number(),
-        }),
-        "balance" => Some(OpeningPart::Balance {
-            account: words.number(),
-            fen: words.number(),
-        }),
-        _ => None,
-    }
+        },
+        "bond" => OpeningPart::Bond {
+            bond: words.number()?,
+            figures: parse_bond(words)?,
+        },
+        "stock" => OpeningPart::Stock {
+            account: words.number()?,
+            bond: words.number()?,
+            available: words.number()?,
+            pledged: words.number()?,
+        },
+        "balance" => OpeningPart::Balance {
+            account: words.number()?,
+            fen: words.number()?,
+        },
+        _ => return Ok(None),
+    };
+    Ok(Some(part))
 }
 
-fn parse_bond(words: &mut Words<'_>) -> BondFigures {
-    BondFigures {
-        unit: words.number(),
-        price: words.number(),
-        discount: words.number(),
-        adjustment: words.number(),
-        lent_limit: words.number(),
-        pledge_limit: words.number(),
-        maturity: words.number(),
-    }
+fn parse_bond<'a>(words: &mut Words<'a>) -> Result<BondFigures, LineError<'a>> {
+    Ok(BondFigures {
+        unit: words.number()?,
+        price: words.number()?,
+        discount: words.number()?,
+        adjustment: words.number()?,
+        lent_limit: words.number()?,
+        pledge_limit: words.number()?,
+        maturity: words.number()?,
+    })
 }
 
-fn parse_opening(words: &mut Words<'_>) -> Opening {
-    Opening {
-        longest_term: words.number(),
-        most_loans: words.number(),
-        loan_rows: words.number(),
-        day: words.number(),
-        r001: words.number(),
-    }
+fn parse_opening<'a>(words: &mut Words<'a>) -> Result<Opening, LineError<'a>> {
+    Ok(Opening {
+        longest_term: words.number()?,
+        most_loans: words.number()?,
+        loan_rows: words.number()?,
+        day: words.number()?,
+        r001: words.number()?,
+    })
 }

@@ -1,111 +1,46 @@
-//! The words of a line, one after another. The first damage is kept, and told at the end.
-ghost use Rattle.std.specs.Prelude.{◌≡◌};
-ghost use Rattle.script.specs.Faults.{fault_of};
-
+//! The words of a line, one after another.
 use crate::fault::{Fault, LineError};
-use crate::item::{BookKind, RuleKind};
-use input::{NumberFault, number};
+use input::number;
+use std::str::{FromStr, SplitAsciiWhitespace};
 
-/// What is still to be read of a line, and the first damage so far.
+/// What is still to be read of a line.
 #[derive(Drop)]
-pub(crate) struct Words<'a> {
-    rest: &'a str,
-    damage: Option<LineError<'a>>,
-}
+pub(crate) struct Words<'a>(SplitAsciiWhitespace<'a>);
 
 impl<'a> Words<'a> {
     /// The words of a line that has no control character.
     pub(crate) fn new(line: &'a str) -> Words<'a> {
-        Words {
-            rest: line,
-            damage: None,
-        }
+        Words(line.split_ascii_whitespace())
     }
 
-    /// The next word; empty where there is none.
-    pub(crate) fn next(&mut self) -> &'a str {
-        let text = self.rest.trim_ascii_start();
-        match text.split_once(' ') {
-            Some((word, rest)) => {
-                self.rest = rest;
-                word
-            }
-            None => {
-                self.rest = "";
-                text
-            }
-        }
+    /// The next word.
+    pub(crate) fn next(&mut self) -> Option<&'a str> {
+        self.0.next()
     }
 
-    /// The next word, as a number; 0 where it is none.
-    pub(crate) fn number(&mut self) -> u64 {
-        let word = self.next();
-        match number(word) {
-            Ok(value) => value,
-            Err(fault) => {
-                self.note(fault_of(fault), word);
-                0
-            }
-        }
+    /// The next word, as a number.
+    pub(crate) fn number(&mut self) -> Result<u64, LineError<'a>> {
+        let word = self.wanted(Fault::MissingNumber)?;
+        number(word).map_err(|fault| LineError::of_word(fault.into(), word))
     }
 
-    /// The next word, as a kind of book.
-    pub(crate) fn book(&mut self) -> BookKind {
-        match self.next() {
-            "standing" => BookKind::Standing,
-            "netting" => BookKind::Netting,
-            word => {
-                self.note_unknown(word);
-                BookKind::Standing
-            }
-        }
+    /// The next word, as a kind of book or rule.
+    pub(crate) fn kind<K: FromStr<Err = Fault>>(&mut self) -> Result<K, LineError<'a>> {
+        let word = self.wanted(Fault::MissingWord)?;
+        word.parse()
+            .map_err(|fault| LineError::of_word(fault, word))
     }
 
-    /// The next word, as a kind of rule.
-    pub(crate) fn rule(&mut self) -> RuleKind {
-        match self.next() {
-            "first" => RuleKind::First,
-            "even" => RuleKind::Even,
-            word => {
-                self.note_unknown(word);
-                RuleKind::First
-            }
-        }
-    }
-
-    /// The first damage, if any. Nothing may be left.
+    /// Nothing may be left.
     pub(crate) fn end(&mut self) -> Result<(), LineError<'a>> {
-        let word = self.next();
-        if !word.is_empty() {
-            self.note(Fault::ExtraWord, word);
-        }
-        match self.damage {
-            Some(damage) => Err(damage),
+        match self.next() {
             None => Ok(()),
+            Some(word) => Err(LineError::of_word(Fault::ExtraWord, word)),
         }
     }
 
-    fn note(&mut self, fault: Fault, word: &'a str) {
-        if self.damage.is_none() {
-            self.damage = Some(LineError { fault, word });
-        }
-    }
-
-    fn note_unknown(&mut self, word: &'a str) {
-        if word.is_empty() {
-            self.note(Fault::MissingWord, word);
-        } else {
-            self.note(Fault::UnknownWord, word);
-        }
-    }
-}
-
-fn fault_of(fault: NumberFault) -> Fault
-    ensures { result ≡ fault_of fault }
-{
-    match fault {
-        NumberFault::Empty => Fault::MissingNumber,
-        NumberFault::NotDigits => Fault::NotNumber,
-        NumberFault::TooLarge => Fault::TooLarge,
+    // The next word; the line has this fault where there is none.
+    fn wanted(&mut self, missing: Fault) -> Result<&'a str, LineError<'a>> {
+        self.next().ok_or(LineError::of_line(missing))
     }
 }

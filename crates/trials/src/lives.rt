@@ -38,16 +38,14 @@ fn ends_alike<B: Book + Drop, C: Book + Drop, S: SharingRule + Drop>(
         first,
         first,
     ];
-    match live(bonds, cash, rule, &figures(), &calls) {
-        Err(_) => Err(Fail::new("not opened")),
-        Ok(lived) => {
-            assert_eq!(rt; lived.pool.bond_amount(32), Some(1_000_000));
-            assert_eq!(rt; lived.pool.bond_amount(64), Some(4_000_000));
-            assert_eq!(rt; lived.pool.bond_amount(33), Some(700));
-            assert_eq!(rt; lived.pool.cash_amount(2), Some(1));
-            Ok(())
-        }
-    }
+    let Ok(lived) = live(bonds, cash, rule, &figures(), &calls) else {
+        return Err(Fail::new("not opened"));
+    };
+    assert_eq!(rt; lived.pool.bond_amount(32), Some(1_000_000));
+    assert_eq!(rt; lived.pool.bond_amount(64), Some(4_000_000));
+    assert_eq!(rt; lived.pool.bond_amount(33), Some(700));
+    assert_eq!(rt; lived.pool.cash_amount(2), Some(1));
+    Ok(())
 }
 
 #[test]

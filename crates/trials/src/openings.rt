@@ -7,44 +7,44 @@ use share::FirstRule;
 use standing::Standing;
 use std::test::Fail;
 
-fn spot_of(figures: &Figures) -> (u8, u64, char) {
+fn opened(figures: &Figures) -> Result<(), (u8, u64, char)> {
     told(Records::open(figures))
 }
 
 #[test]
 fn rows_are_refused_at_their_number(rt: HostRuntime) {
-    assert_eq!(rt; spot_of(&figures()), (0, 0, ' '));
+    assert_eq!(rt; opened(&figures()), Ok(()));
     let mut house = figures();
     house.accounts[0].right = 1;
     house.accounts[5].grade = 8;
-    assert_eq!(rt; spot_of(&house), (20, 0, 'O'));
+    assert_eq!(rt; opened(&house), Err((20, 0, 'O')));
     let mut last = figures();
     last.accounts[31].grade = 8;
     last.bonds[0].price = 0;
-    assert_eq!(rt; spot_of(&last), (20, 31, 'O'));
+    assert_eq!(rt; opened(&last), Err((20, 31, 'O')));
     let mut bond = figures();
     bond.bonds[15].maturity = 70_001;
     bond.longest_term = 0;
-    assert_eq!(rt; spot_of(&bond), (20, 15, 'O'));
+    assert_eq!(rt; opened(&bond), Err((20, 15, 'O')));
 }
 
 #[test]
 fn other_figures_are_refused_at_none(rt: HostRuntime) {
     let mut term = figures();
     term.longest_term = 15;
-    assert_eq!(rt; spot_of(&term), (20, 0, 'O'));
+    assert_eq!(rt; opened(&term), Err((20, 0, 'O')));
     let mut loans = figures();
     loans.most_loans = 0;
-    assert_eq!(rt; spot_of(&loans), (20, 0, 'O'));
+    assert_eq!(rt; opened(&loans), Err((20, 0, 'O')));
     let mut rows = figures();
     rows.loan_rows = 257;
-    assert_eq!(rt; spot_of(&rows), (20, 0, 'O'));
+    assert_eq!(rt; opened(&rows), Err((20, 0, 'O')));
     let mut day = figures();
     day.day = 60_001;
-    assert_eq!(rt; spot_of(&day), (20, 0, 'O'));
+    assert_eq!(rt; opened(&day), Err((20, 0, 'O')));
     let mut rate = figures();
     rate.r001 = 100_001;
-    assert_eq!(rt; spot_of(&rate), (20, 0, 'O'));
+    assert_eq!(rt; opened(&rate), Err((20, 0, 'O')));
 }
 
 #[test]
@@ -53,32 +53,20 @@ fn an_amount_above_the_largest_is_refused_before_a_row(rt: HostRuntime) -> Resul
     amounts[1023] = 10_000_000_000_001;
     let mut bad = figures();
     bad.accounts[3].right = 4;
-    match Pool::open(
-        Netting::new(amounts),
-        Standing::new(balances()),
-        FirstRule,
-        &bad,
-    ) {
-        Ok(_) => Err(Fail::new("opened")),
-        Err(unopened) => {
-            assert_eq!(rt; unopened.refusal.spot, 0);
-            Ok(())
-        },
-    }
+    let (bonds, cash) = (Netting::new(amounts), Standing::new(balances()));
+    let Err(unopened) = Pool::open(bonds, cash, FirstRule, &bad) else {
+        return Err(Fail::new("opened"));
+    };
+    assert_eq!(rt; unopened.refusal.spot, 0);
+    Ok(())
 }
 
 #[test]
 fn a_book_of_another_size_is_refused(rt: HostRuntime) -> Result<(), Fail> {
-    match Pool::open(
-        Standing::new(balances()),
-        Standing::new(balances()),
-        FirstRule,
-        &figures(),
-    ) {
-        Ok(_) => Err(Fail::new("opened")),
-        Err(unopened) => {
-            assert_eq!(rt; unopened.refusal.cause.code(), 20);
-            Ok(())
-        },
-    }
+    let (bonds, cash) = (Standing::new(balances()), Standing::new(balances()));
+    let Err(unopened) = Pool::open(bonds, cash, FirstRule, &figures()) else {
+        return Err(Fail::new("opened"));
+    };
+    assert_eq!(rt; unopened.refusal.cause.code(), 20);
+    Ok(())
 }

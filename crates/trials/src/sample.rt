@@ -4,11 +4,11 @@ use standing::{StandingBonds, StandingCash};
 use tables::{AccountFigures, BondFigures};
 use terms::Refusal;
 
-/// What a call answered, in numbers: 0 where it was accepted, else the number, the spot and the layer.
-pub(crate) fn told<X: Drop>(answer: Result<X, Refusal>) -> (u8, u64, char) {
+/// What a call answered: a refusal is told by its number, its spot and the letter of its layer.
+pub(crate) fn told<X: Drop>(answer: Result<X, Refusal>) -> Result<(), (u8, u64, char)> {
     match answer {
-        Ok(_) => (0, 0, ' '),
-        Err(refusal) => (refusal.cause.code(), refusal.spot, refusal.layer.letter()),
+        Ok(_) => Ok(()),
+        Err(refusal) => Err((refusal.cause.code(), refusal.spot, refusal.layer.letter())),
     }
 }
 

@@ -1,11 +1,8 @@
-use Rattle.std.proofs.Common.{rules}
-use Rattle.input.proofs.Reading.{read_value, read_too_large}
+use Rattle.std.proofs.Common.{rules, ◌∙◌, sym}
+use Rattle.input.proofs.Reading.{all_digits_are, read}
 use Rattle.input.proofs.numbers.number.Goals as goal
 
-pub returns-in-Ok : goal.returns-in-Ok
-returns-in-Ok c =
-    read_value c.args.word.now c.parse.result c.in-Ok.value c.parse.ensures.value.0 (search rules) (search rules) c.in-Ok.is
-
-pub returns-in-Err : goal.returns-in-Err
-returns-in-Err c =
-    read_too_large c.args.word.now c.parse.result c.in-Err.field-0 c.parse.ensures.value.0 (search rules) (search rules) c.in-Err.is
+pub returns : goal.returns
+returns c =
+    let w = c.args.word.now in
+    read w (search rules) (sym (all_digits_are w) ∙ (search rules)) c.parse.result c.map_err.result (search rules) (search rules)
