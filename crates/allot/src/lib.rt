@@ -52,11 +52,7 @@ fn units(amount: u64, unit: u32) -> u64
 fn in_units(unit: u32, amounts: &[u64; 32]) -> [u64; 32]
     ensures { result ≡ in_units unit amounts.now }
 {
-    let mut limits = [0; 32];
-    for (i, &amount) in amounts.iter().enumerate() {
-        limits[i] = units(amount, unit);
-    }
-    limits
+    amounts.map(|amount| units(amount, unit))
 }
 
 // Shares in units as faces.
@@ -64,11 +60,7 @@ fn times_unit(unit: u32, shares: &[u64; 32]) -> [u64; 32]
     requires { (k : ℕ) → slice_index shares.now k * unit < 2 ^ 64 }
     ensures { result ≡ times_unit unit shares.now }
 {
-    let mut faces = [0; 32];
-    for (i, &share) in shares.iter().enumerate() {
-        faces[i] = share * unit as u64;
-    }
-    faces
+    shares.map(|share| share * u64::from(unit))
 }
 
 #[cfg(test)]
