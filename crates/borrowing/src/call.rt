@@ -4,7 +4,6 @@ ghost use Rattle.terms.specs.Table.{first_of, answered};
 ghost use Rattle.terms.specs.Refusals.{Settles};
 ghost use Rattle.book.specs.Ledgers.{ledger};
 ghost use Rattle.records.specs.Kept.{kept_of};
-ghost use Rattle.register.specs.Loans.{loans_of};
 ghost use Rattle.loan.specs.Kept.{row_of};
 ghost use Rattle.borrowing.specs.Borrows.{order_rules, borrow_rules, loan_of, lent};
 ghost use Rattle.borrowing.specs.Deals.{map_ok};
@@ -28,7 +27,7 @@ pub fn borrow<B: Book, S: SharingRule>(
     day: u32,
     order: &Order,
 ) -> Result<u64, Refusal>
-    ensures { Settles (first_of (borrow_rules (ledger B.Book bonds.old) (kept_of records.now) (loans_of loans.old) day order.now)) (length (loans_of loans.old).rows) (B.Book.amounts bonds.old, loans_of loans.old) (lent (ledger B.Book bonds.old) (loans_of loans.old) (loan_of (S.SharingRule.meaning rule.now) (ledger B.Book bonds.old) (kept_of records.now) (loans_of loans.old) order.now)) result (B.Book.amounts bonds.new, loans_of loans.new) }
+    ensures { Settles (first_of (borrow_rules (ledger B.Book bonds.old) (kept_of records.now) loans.old day order.now)) (length loans.old.rows) (B.Book.amounts bonds.old, loans.old) (lent (ledger B.Book bonds.old) loans.old (loan_of (S.SharingRule.meaning rule.now) (ledger B.Book bonds.old) (kept_of records.now) loans.old order.now)) result (B.Book.amounts bonds.new, loans.new) }
 {
     borrow_on(bonds, rule, records, loans, day, order)
 }
@@ -42,7 +41,7 @@ fn borrow_on<B: Book, S: SharingRule>(
     day: u32,
     order: &Order,
 ) -> Result<u64, Refusal>
-    ensures { Settles (first_of (borrow_rules (ledger B.Book bonds.old) (kept_of records.now) (loans_of loans.old) day order.now)) (length (loans_of loans.old).rows) (B.Book.amounts bonds.old, loans_of loans.old) (lent (ledger B.Book bonds.old) (loans_of loans.old) (loan_of (S.SharingRule.meaning rule.now) (ledger B.Book bonds.old) (kept_of records.now) (loans_of loans.old) order.now)) result (B.Book.amounts bonds.new, loans_of loans.new) }
+    ensures { Settles (first_of (borrow_rules (ledger B.Book bonds.old) (kept_of records.now) loans.old day order.now)) (length loans.old.rows) (B.Book.amounts bonds.old, loans.old) (lent (ledger B.Book bonds.old) loans.old (loan_of (S.SharingRule.meaning rule.now) (ledger B.Book bonds.old) (kept_of records.now) loans.old order.now)) result (B.Book.amounts bonds.new, loans.new) }
 {
     if records.is_not_open(day) {
         return Err(Layer::Order.refuse(Cause::Time, 0));
@@ -60,7 +59,7 @@ fn check_order<B: Book, S: SharingRule>(
     loans: &Register,
     order: &Order,
 ) -> Result<Loan, Refusal>
-    ensures { map_ok row_of result ≡ answered (first_of (order_rules (ledger B.Book bonds.now) (kept_of records.now) (loans_of loans.now) order.now)) (loan_of (S.SharingRule.meaning rule.now) (ledger B.Book bonds.now) (kept_of records.now) (loans_of loans.now) order.now) }
+    ensures { map_ok row_of result ≡ answered (first_of (order_rules (ledger B.Book bonds.now) (kept_of records.now) loans.now order.now)) (loan_of (S.SharingRule.meaning rule.now) (ledger B.Book bonds.now) (kept_of records.now) loans.now order.now) }
 {
     let terms = check_terms(records, order)?;
     let pledge = check_rows(bonds, records, &terms, order)?;

@@ -5,7 +5,6 @@ ghost use Rattle.terms.specs.Table.{first_of, answered};
 ghost use Rattle.book.specs.Ledgers.{ledger};
 ghost use Rattle.records.specs.Kept.{kept_of, bond_at};
 ghost use Rattle.loan.specs.Kept.{row_of};
-ghost use Rattle.register.specs.Loans.{loans_of};
 ghost use Rattle.borrowing.specs.Deals.{loans_rules, pool_rules, worth_rules, row_fits, rows_fit, room_rules, deal_rules, shares_of, begun, map_ok};
 
 use allot::allot;
@@ -33,7 +32,7 @@ pub(crate) fn check_deal<B: Book, S: SharingRule>(
 ) -> Result<Loan, Refusal>
     requires bond { terms.now.bond < 16 }
     requires face { good_face terms.now.face (bond_at (kept_of records.now) terms.now.bond).unit ≡ true }
-    ensures { map_ok row_of result ≡ answered (first_of (deal_rules (ledger B.Book bonds.now) (kept_of records.now) (loans_of loans.now) terms.now pledge.now)) (begun (kept_of records.now) terms.now pledge.now (shares_of (S.SharingRule.meaning rule.now) (ledger B.Book bonds.now) (kept_of records.now) (loans_of loans.now) terms.now)) }
+    ensures { map_ok row_of result ≡ answered (first_of (deal_rules (ledger B.Book bonds.now) (kept_of records.now) loans.now terms.now pledge.now)) (begun (kept_of records.now) terms.now pledge.now (shares_of (S.SharingRule.meaning rule.now) (ledger B.Book bonds.now) (kept_of records.now) loans.now terms.now)) }
 {
     check_loans(records, loans, terms)?;
     let shares = check_pool(bonds, rule, records, loans, terms)?;
@@ -68,7 +67,7 @@ fn begun_row(records: &Records, terms: &Terms, pledge: &Pledge, shares: [u64; 32
 
 // The borrower may have one more loan, and a loan row is unused.
 fn check_loans(records: &Records, loans: &Register, terms: &Terms) -> Result<(), Refusal>
-    ensures { result ≡ answered (first_of (loans_rules (kept_of records.now) (loans_of loans.now) terms.now)) tt }
+    ensures { result ≡ answered (first_of (loans_rules (kept_of records.now) loans.now terms.now)) tt }
 {
     if loans.unclosed(terms.borrower) >= records.limits.most_loans as u128 || loans.is_full() {
         return Err(Layer::Order.refuse(Cause::Loans, 0));
@@ -86,7 +85,7 @@ fn check_pool<B: Book, S: SharingRule>(
 ) -> Result<[u64; 32], Refusal>
     requires bond { terms.now.bond < 16 }
     requires face { good_face terms.now.face (bond_at (kept_of records.now) terms.now.bond).unit ≡ true }
-    ensures answer { result ≡ answered (first_of (pool_rules (ledger B.Book bonds.now) (kept_of records.now) (loans_of loans.now) terms.now)) (shares_of (S.SharingRule.meaning rule.now) (ledger B.Book bonds.now) (kept_of records.now) (loans_of loans.now) terms.now) }
+    ensures answer { result ≡ answered (first_of (pool_rules (ledger B.Book bonds.now) (kept_of records.now) loans.now terms.now)) (shares_of (S.SharingRule.meaning rule.now) (ledger B.Book bonds.now) (kept_of records.now) loans.now terms.now) }
     ensures whole { IfOk result (λ shares. sum shares ≡ terms.now.face) }
 {
     let lendable = lendable_to(bonds, records, loans, terms.borrower, terms.bond);
@@ -105,7 +104,7 @@ fn check_worth<B: Book>(
     terms: &Terms,
     pledge: &Pledge,
 ) -> Result<(), Refusal>
-    ensures { result ≡ answered (first_of (worth_rules (ledger B.Book bonds.now) (kept_of records.now) (loans_of loans.now) terms.now pledge.now)) tt }
+    ensures { result ≡ answered (first_of (worth_rules (ledger B.Book bonds.now) (kept_of records.now) loans.now terms.now pledge.now)) tt }
 {
     if !is_covered(records, terms, rate(records.time.r001), pledge) {
         return Err(Layer::Worth.refuse(Cause::Value, 0));

@@ -6,12 +6,12 @@ ghost use Rattle.std.specs.Prelude.{◌≡◌};
 ghost use Rattle.records.specs.Kept.{kept_of, preset_at};
 ghost use Rattle.terms.specs.Table.{first_of, answered};
 ghost use Rattle.book.specs.Ledgers.{ledger};
-ghost use Rattle.register.specs.Loans.{loans_of};
 ghost use Rattle.lending.specs.Lendable.{lendable_at, lendable_rules, lendable_by, lendable_to};
 
 use book::{Book, available_place, held};
 use records::{Records, is_no_bond, is_no_member};
 use register::Register;
+use std::array;
 use tables::lendable;
 use terms::{Cause, Layer, Refusal};
 
@@ -23,7 +23,7 @@ pub fn lendable_face<B: Book>(
     account: u64,
     bond: u64,
 ) -> Result<u64, Refusal>
-    ensures { result ≡ answered (first_of (lendable_rules account bond)) (lendable_at (ledger B.Book bonds.now) (kept_of records.now) (loans_of loans.now) account bond) }
+    ensures { result ≡ answered (first_of (lendable_rules account bond)) (lendable_at (ledger B.Book bonds.now) (kept_of records.now) loans.now account bond) }
 {
     if is_no_member(account) {
         return Err(Layer::Order.refuse(Cause::Account, account));
@@ -42,13 +42,9 @@ pub fn lendable_to<B: Book>(
     borrower: u8,
     bond: u8,
 ) -> [u64; 32]
-    ensures { result ≡ lendable_to (ledger B.Book bonds.now) (kept_of records.now) (loans_of loans.now) borrower bond }
+    ensures { result ≡ lendable_to (ledger B.Book bonds.now) (kept_of records.now) loans.now borrower bond }
 {
-    let mut faces = [0; 32];
-    for account in 0..32 {
-        faces[account] = face_to(bonds, records, loans, borrower, account as u8, bond);
-    }
-    faces
+    array::from_fn(|account| face_to(bonds, records, loans, borrower, account as u8, bond))
 }
 
 // What an account may lend of a bond, if it is not the borrower.
@@ -60,7 +56,7 @@ fn face_to<B: Book>(
     account: u8,
     bond: u8,
 ) -> u64
-    ensures { result ≡ lendable_by (ledger B.Book bonds.now) (kept_of records.now) (loans_of loans.now) borrower bond account }
+    ensures { result ≡ lendable_by (ledger B.Book bonds.now) (kept_of records.now) loans.now borrower bond account }
 {
     if account == borrower {
         return 0;
@@ -70,14 +66,14 @@ fn face_to<B: Book>(
 
 // What an account may lend of a bond; nothing where there is no such account.
 fn face_of<B: Book>(bonds: &B, records: &Records, loans: &Register, account: u8, bond: u8) -> u64
-    ensures { result ≡ lendable_at (ledger B.Book bonds.now) (kept_of records.now) (loans_of loans.now) account bond }
+    ensures { result ≡ lendable_at (ledger B.Book bonds.now) (kept_of records.now) loans.now account bond }
 {
-    let Some(lender) = records.accounts.get(account as usize) else {
+    let Some(lender) = records.accounts.get(usize::from(account)) else {
         return 0;
     };
     let available = held(bonds, available_place(account, bond));
     let preset = preset_of(records, account, bond);
-    let lent = loans.lent(account, bond).min(u64::MAX as u128);
+    let lent = loans.lent(account, bond).min(u128::from(u64::MAX));
     lendable(*lender, available, preset, lent as u64)
 }
 
@@ -85,11 +81,8 @@ fn face_of<B: Book>(bonds: &B, records: &Records, loans: &Register, account: u8,
 fn preset_of(records: &Records, account: u8, bond: u8) -> u64
     ensures { result ≡ preset_at (kept_of records.now) account bond }
 {
-    let Some(presets) = records.presets.get(account as usize) else {
+    let Some(presets) = records.presets.get(usize::from(account)) else {
         return 0;
     };
-    match presets.get(bond as usize) {
-        Some(preset) => *preset,
-        None => 0,
-    }
+    presets.get(usize::from(bond)).copied().unwrap_or(0)
 }

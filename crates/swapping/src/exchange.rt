@@ -5,7 +5,7 @@ ghost use Rattle.terms.specs.Refusals.{Settles};
 ghost use Rattle.book.specs.Ledgers.{ledger};
 ghost use Rattle.moves.specs.Many.{after_moves};
 ghost use Rattle.records.specs.Kept.{kept_of};
-ghost use Rattle.register.specs.Loans.{loans_of, loan_at, no_such_loan};
+ghost use Rattle.register.specs.Loans.{loan_at, no_such_loan};
 ghost use Rattle.swapping.specs.Swaps.{kept_rules, swap_rules, swap_moves, exchanged};
 
 use crate::judging::{check_loan, find_later, row_of, terms_in};
@@ -28,7 +28,7 @@ pub fn swap<B: Book>(
     row: u64,
     new: OrderRow,
 ) -> Result<(), Refusal>
-    ensures { Settles (first_of (swap_rules (ledger B.Book bonds.old) (kept_of records.now) (loans_of loans.old) day loan row new)) tt (B.Book.amounts bonds.old, loans_of loans.old) (exchanged (ledger B.Book bonds.old) (loans_of loans.old) loan row new) result (B.Book.amounts bonds.new, loans_of loans.new) }
+    ensures { Settles (first_of (swap_rules (ledger B.Book bonds.old) (kept_of records.now) loans.old day loan row new)) tt (B.Book.amounts bonds.old, loans.old) (exchanged (ledger B.Book bonds.old) loans.old loan row new) result (B.Book.amounts bonds.new, loans.new) }
 {
     swap_on(bonds, records, loans, day, loan, row, new)
 }
@@ -43,7 +43,7 @@ fn swap_on<B: Book>(
     row: u64,
     new: OrderRow,
 ) -> Result<(), Refusal>
-    ensures { Settles (first_of (swap_rules (ledger B.Book bonds.old) (kept_of records.now) (loans_of loans.old) day loan row new)) tt (B.Book.amounts bonds.old, loans_of loans.old) (exchanged (ledger B.Book bonds.old) (loans_of loans.old) loan row new) result (B.Book.amounts bonds.new, loans_of loans.new) }
+    ensures { Settles (first_of (swap_rules (ledger B.Book bonds.old) (kept_of records.now) loans.old day loan row new)) tt (B.Book.amounts bonds.old, loans.old) (exchanged (ledger B.Book bonds.old) loans.old loan row new) result (B.Book.amounts bonds.new, loans.new) }
 {
     if records.is_not_open(day) {
         return Err(Layer::Order.refuse(Cause::Time, 0));
@@ -65,9 +65,9 @@ fn swap_in<B: Book>(
     row: u64,
     new: OrderRow,
 ) -> Result<(), Refusal>
-    requires there { no_such_loan (loans_of loans.old) loan ≡ false }
-    requires same { kept.now ≡ loan_at (loans_of loans.old) loan }
-    ensures { Settles (first_of (kept_rules (ledger B.Book bonds.old) (kept_of records.now) (loans_of loans.old) kept.now row new)) tt (B.Book.amounts bonds.old, loans_of loans.old) (exchanged (ledger B.Book bonds.old) (loans_of loans.old) loan row new) result (B.Book.amounts bonds.new, loans_of loans.new) }
+    requires there { no_such_loan loans.old loan ≡ false }
+    requires same { kept.now ≡ loan_at loans.old loan }
+    ensures { Settles (first_of (kept_rules (ledger B.Book bonds.old) (kept_of records.now) loans.old kept.now row new)) tt (B.Book.amounts bonds.old, loans.old) (exchanged (ledger B.Book bonds.old) loans.old loan row new) result (B.Book.amounts bonds.new, loans.new) }
 {
     check_loan(records, kept, row)?;
     let terms = terms_in(kept);

@@ -3,7 +3,6 @@ ghost use Rattle.std.specs.Prelude.{◌≡◌, ◌<◌, IfOk, slice_index_or};
 ghost use Rattle.terms.specs.Table.{first_of, answered};
 ghost use Rattle.book.specs.Ledgers.{ledger};
 ghost use Rattle.records.specs.Kept.{kept_of};
-ghost use Rattle.register.specs.Loans.{loans_of};
 ghost use Rattle.swapping.specs.Swaps.{terms_in, loan_rules, place_rules};
 
 use book::{Book, available_place, has_room, held, pledged_place};
@@ -65,7 +64,7 @@ pub(crate) fn find_later<B: Book>(
     i: u64,
     new: PledgeRow,
 ) -> Option<Refusal>
-    ensures { result ≡ first_of (place_rules (ledger B.Book bonds.now) (kept_of records.now) (loans_of loans.now) loan.now i (record { bond = new.bond; face = new.face })) }
+    ensures { result ≡ first_of (place_rules (ledger B.Book bonds.now) (kept_of records.now) loans.now loan.now i (record { bond = new.bond; face = new.face })) }
 {
     let old = row_of(&loan.pledge.rows, i);
     let borrower = loan.borrower;

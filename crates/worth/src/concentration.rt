@@ -3,7 +3,6 @@ ghost use Rattle.std.specs.Prelude.{◌≡◌, ◌^◌, ◌<◌};
 ghost use Rattle.terms.specs.Table.{first_of, answered};
 ghost use Rattle.book.specs.Ledgers.{ledger};
 ghost use Rattle.records.specs.Kept.{kept_of};
-ghost use Rattle.register.specs.Loans.{loans_of};
 ghost use Rattle.worth.specs.Concentration.{bond_total, above, lent_above, row_above, row_over, row_limits};
 
 use crate::table::bond_of;
@@ -42,7 +41,7 @@ pub fn is_lent_above<B: Book>(
     bond: u8,
     face: u32,
 ) -> bool
-    ensures { result ≡ lent_above (ledger B.Book bonds.now) (kept_of records.now) (loans_of loans.now) borrower bond face }
+    ensures { result ≡ lent_above (ledger B.Book bonds.now) (kept_of records.now) loans.now borrower bond face }
 {
     let limit = bond_of(records, bond).lent_limit;
     let out = loans.face_out(borrower, bond) + face as u128;
@@ -58,7 +57,7 @@ pub fn is_row_above<B: Book>(
     bond: u8,
     face: u32,
 ) -> bool
-    ensures { result ≡ row_above (ledger B.Book bonds.now) (kept_of records.now) (loans_of loans.now) borrower bond face }
+    ensures { result ≡ row_above (ledger B.Book bonds.now) (kept_of records.now) loans.now borrower bond face }
 {
     let limit = bond_of(records, bond).pledge_limit;
     let rows = loans.rows_out(borrower, bond) + face as u128;
@@ -73,7 +72,7 @@ pub fn check_row_limits<B: Book>(
     borrower: u8,
     pledge: &Pledge,
 ) -> Result<(), Refusal>
-    ensures { result ≡ answered (first_of (row_limits (ledger B.Book bonds.now) (kept_of records.now) (loans_of loans.now) borrower 0 pledge.now.rows)) tt }
+    ensures { result ≡ answered (first_of (row_limits (ledger B.Book bonds.now) (kept_of records.now) loans.now borrower 0 pledge.now.rows)) tt }
 {
     check_each(bonds, records, loans, borrower, &pledge.rows)
 }
@@ -86,7 +85,7 @@ fn check_each<B: Book>(
     borrower: u8,
     rows: &[PledgeRow; 4],
 ) -> Result<(), Refusal>
-    ensures { result ≡ answered (first_of (row_limits (ledger B.Book bonds.now) (kept_of records.now) (loans_of loans.now) borrower 0 rows.now)) tt }
+    ensures { result ≡ answered (first_of (row_limits (ledger B.Book bonds.now) (kept_of records.now) loans.now borrower 0 rows.now)) tt }
 {
     for (i, &row) in rows.iter().enumerate() {
         if is_row_over(bonds, records, loans, borrower, row) {
@@ -104,7 +103,7 @@ fn is_row_over<B: Book>(
     borrower: u8,
     row: PledgeRow,
 ) -> bool
-    ensures { result ≡ row_over (ledger B.Book bonds.now) (kept_of records.now) (loans_of loans.now) borrower row }
+    ensures { result ≡ row_over (ledger B.Book bonds.now) (kept_of records.now) loans.now borrower row }
 {
     row.face > 0 && is_row_above(bonds, records, loans, borrower, row.bond, row.face)
 }
