@@ -1,29 +1,28 @@
 //! The rows of an order, each judged beside the rows before it.
-ghost use Rattle.std.specs.Prelude.{◌≡◌, take};
+ghost use Rattle.std.specs.Prelude.{◌≡◌, ◌≤◌, length, take};
 ghost use Rattle.terms.specs.Table.{first_of, answered};
-ghost use Rattle.book.specs.Ledgers.{ledger};
-ghost use Rattle.records.specs.Kept.{kept_of};
 ghost use Rattle.orders.specs.Rows.{row_rules, row_of, rows_rules, unpledged, rows_of, pledge_of, outcome};
 
 use crate::terms_of::Terms;
 use book::{Book, available_place, held};
+use lending::View;
 use pledge::{Pledge, PledgeRow};
-use records::{Records, is_no_bond};
+use records::is_no_bond;
 use terms::{Cause, Layer, Order, OrderRow, Refusal, is_good_face};
 
 /// A row pledged on these terms beside the rows that stand in the pledge, or why it is refused.
 pub fn check_row<B: Book>(
-    bonds: &B,
-    records: &Records,
+    view: &View<B>,
     terms: &Terms,
     pledge: &Pledge,
     index: u64,
     row: OrderRow,
 ) -> Result<PledgeRow, Refusal>
-    ensures { result ≡ answered (first_of (row_rules (ledger B.Book bonds.now) (kept_of records.now) terms.now pledge.now index row)) (row_of row) }
+    ensures { result ≡ answered (first_of (row_rules view.now terms.now pledge.now index row)) (row_of row) }
 {
+    let records = view.records;
     if is_no_bond(row.bond)
-        || row.bond == terms.bond as u64
+        || row.bond == u64::from(terms.bond)
         || pledge.has_bond(row.bond as u8)
         || !is_good_face(row.face, records.bonds[row.bond as usize].unit)
     {
@@ -36,7 +35,7 @@ pub fn check_row<B: Book>(
     if terms.due >= bond.maturity {
         return Err(Layer::Order.refuse(Cause::Maturity, index));
     }
-    if held(bonds, available_place(terms.borrower, row.bond as u8)) < row.face {
+    if held(view.bonds, available_place(terms.borrower, row.bond as u8)) < row.face {
         return Err(Layer::BondBook.refuse(Cause::Short, index));
     }
     Ok(PledgeRow {
@@ -46,35 +45,29 @@ pub fn check_row<B: Book>(
 }
 
 /// The pledge of an order, or its first row that is refused.
-pub fn check_rows<B: Book>(
-    bonds: &B,
-    records: &Records,
-    terms: &Terms,
-    order: &Order,
-) -> Result<Pledge, Refusal>
-    ensures { result ≡ answered (first_of (rows_rules (ledger B.Book bonds.now) (kept_of records.now) terms.now unpledged 0 (rows_of order.now))) (pledge_of order.now) }
+pub fn check_rows<B: Book>(view: &View<B>, terms: &Terms, order: &Order) -> Result<Pledge, Refusal>
+    ensures { result ≡ answered (first_of (rows_rules view.now terms.now unpledged 0 (rows_of order.now))) (pledge_of order.now) }
 {
-    pledge_of(bonds, records, terms, order.count, &order.rows)
+    pledge_of(view, terms, front(&order.rows, order.count))
 }
 
-// The pledge of the first `count` rows, or the first of them that is refused.
-fn pledge_of<B: Book>(
-    bonds: &B,
-    records: &Records,
-    terms: &Terms,
-    count: u64,
-    rows: &[OrderRow; 4],
-) -> Result<Pledge, Refusal>
-    ensures { result ≡ outcome (ledger B.Book bonds.now) (kept_of records.now) terms.now unpledged 0 (take count rows.now) }
+// The first `count` rows, the only ones that are looked at.
+#[tactic(auto, using(std::proofs::lemmas::List::take_min))]
+fn front(rows: &[OrderRow; 4], count: u64) -> &[OrderRow]
+    ensures rows { result.now ≡ take count rows.now }
+    ensures few { length result.now ≤ 4 }
 {
-    let mut pledge = Pledge {
-        rows: [PledgeRow { bond: 0, face: 0 }; 4],
-    };
+    &rows[..rows.len().min(count as usize)]
+}
+
+// The pledge of these rows, or the first of them that is refused.
+fn pledge_of<B: Book>(view: &View<B>, terms: &Terms, rows: &[OrderRow]) -> Result<Pledge, Refusal>
+    requires { length rows.now ≤ 4 }
+    ensures { result ≡ outcome view.now terms.now unpledged 0 rows.now }
+{
+    let mut pledge = Pledge::default();
     for (i, &row) in rows.iter().enumerate() {
-        if i as u64 >= count {
-            break;
-        }
-        pledge.rows[i] = check_row(bonds, records, terms, &pledge, i as u64, row)?;
+        pledge.rows[i] = check_row(view, terms, &pledge, i as u64, row)?;
     }
     Ok(pledge)
 }
