@@ -75,3 +75,8 @@ module _ (u face : ℕ) (lendable limits : List ℕ) (e : limits ≡ in_units u 
   face_below n shares law small k =
       let le : get_or shares k 0 ≤ get_or (in_units u lendable) k 0 = omega (arith, law.within k, ap (λ ls. get_or ls k 0) e) in
       omega (arith, share_fits u shares lendable k le, small k)
+
+-- what callers need of it
+pub face_made : (u : ℕ) (lendable shares : List ℕ) (face : ℕ) → ExactlyMade u lendable face (Some shares) → 0 < u → face % u ≡ 0 → sum shares ≡ face
+unfolding ExactlyMade
+face_made u lendable shares face e some whole = (e some whole).made

@@ -15,7 +15,7 @@ fn pledge_row<B: Book>(bonds: &mut B, borrower: u8, row: PledgeRow)
 {
     let source = available_place(borrower, row.bond);
     let target = pledged_place(borrower, row.bond);
-    let _ = bonds.shift(source, target, row.face as u64);
+    let _ = bonds.shift(source, target, u64::from(row.face));
 }
 
 fn pledge_rows<B: Book>(bonds: &mut B, borrower: u8, rows: &[PledgeRow; 4])
@@ -32,10 +32,5 @@ pub(crate) fn move_bonds<B: Book>(bonds: &mut B, loan: &Loan)
 {
     pledge_rows(bonds, loan.borrower, &loan.pledge.rows);
     let target = available_place(loan.borrower, loan.bond);
-    gather(
-        bonds,
-        Column::available(loan.bond),
-        target,
-        &loan.shares.by(),
-    );
+    gather(bonds, Column::available(loan.bond), target, &loan.shares.by);
 }

@@ -7,3 +7,6 @@ pub record View : Type 0 where
   pub bonds : Ledger
   pub records : Kept
   pub loans : Loans
+
+abbrev pub viewed : Ledger → Kept → Loans → View
+viewed bonds records loans = record { bonds = bonds; records = records; loans = loans }

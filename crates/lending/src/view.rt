@@ -5,6 +5,7 @@ use register::Register;
 use std::marker::Model;
 
 /// The bond book, the records and the loans of a pool, to be read together.
+#[derive(Drop)]
 pub struct View<'a, B: Book> {
     pub bonds: &'a B,
     pub records: &'a Records,

@@ -1,26 +1,28 @@
 //! The rows of an order, each judged beside the rows before it.
+//! Loans have no say in this, so the book and the records are taken, and no view of a whole pool.
 ghost use Rattle.std.specs.Prelude.{◌≡◌, ◌≤◌, length, take};
 ghost use Rattle.terms.specs.Table.{first_of, answered};
+ghost use Rattle.book.specs.Ledgers.{ledger};
+ghost use Rattle.records.specs.Kept.{kept_of};
 ghost use Rattle.orders.specs.Rows.{row_rules, row_of, rows_rules, unpledged, rows_of, pledge_of, outcome};
 
 use crate::terms_of::Terms;
 use book::{Book, available_place, held};
-use lending::View;
 use pledge::{Pledge, PledgeRow};
-use records::is_no_bond;
+use records::{Records, is_no_bond};
 use terms::{Cause, Layer, Order, OrderRow, Refusal, is_good_face};
 
 /// A row pledged on these terms beside the rows that stand in the pledge, or why it is refused.
 pub fn check_row<B: Book>(
-    view: &View<B>,
+    bonds: &B,
+    records: &Records,
     terms: &Terms,
     pledge: &Pledge,
     index: u64,
     row: OrderRow,
 ) -> Result<PledgeRow, Refusal>
-    ensures { result ≡ answered (first_of (row_rules view.now terms.now pledge.now index row)) (row_of row) }
+    ensures { result ≡ answered (first_of (row_rules (ledger B.Book bonds.now) (kept_of records.now) terms.now pledge.now index row)) (row_of row) }
 {
-    let records = view.records;
     if is_no_bond(row.bond)
         || row.bond == u64::from(terms.bond)
         || pledge.has_bond(row.bond as u8)
@@ -35,7 +37,7 @@ pub fn check_row<B: Book>(
     if terms.due >= bond.maturity {
         return Err(Layer::Order.refuse(Cause::Maturity, index));
     }
-    if held(view.bonds, available_place(terms.borrower, row.bond as u8)) < row.face {
+    if held(bonds, available_place(terms.borrower, row.bond as u8)) < row.face {
         return Err(Layer::BondBook.refuse(Cause::Short, index));
     }
     Ok(PledgeRow {
@@ -45,10 +47,15 @@ pub fn check_row<B: Book>(
 }
 
 /// The pledge of an order, or its first row that is refused.
-pub fn check_rows<B: Book>(view: &View<B>, terms: &Terms, order: &Order) -> Result<Pledge, Refusal>
-    ensures { result ≡ answered (first_of (rows_rules view.now terms.now unpledged 0 (rows_of order.now))) (pledge_of order.now) }
+pub fn check_rows<B: Book>(
+    bonds: &B,
+    records: &Records,
+    terms: &Terms,
+    order: &Order,
+) -> Result<Pledge, Refusal>
+    ensures { result ≡ answered (first_of (rows_rules (ledger B.Book bonds.now) (kept_of records.now) terms.now unpledged 0 (rows_of order.now))) (pledge_of order.now) }
 {
-    pledge_of(view, terms, front(&order.rows, order.count))
+    pledge_of(bonds, records, terms, front(&order.rows, order.count))
 }
 
 // The first `count` rows, the only ones that are looked at.
@@ -61,13 +68,18 @@ fn front(rows: &[OrderRow; 4], count: u64) -> &[OrderRow]
 }
 
 // The pledge of these rows, or the first of them that is refused.
-fn pledge_of<B: Book>(view: &View<B>, terms: &Terms, rows: &[OrderRow]) -> Result<Pledge, Refusal>
+fn pledge_of<B: Book>(
+    bonds: &B,
+    records: &Records,
+    terms: &Terms,
+    rows: &[OrderRow],
+) -> Result<Pledge, Refusal>
     requires { length rows.now ≤ 4 }
-    ensures { result ≡ outcome view.now terms.now unpledged 0 rows.now }
+    ensures { result ≡ outcome (ledger B.Book bonds.now) (kept_of records.now) terms.now unpledged 0 rows.now }
 {
     let mut pledge = Pledge::default();
     for (i, &row) in rows.iter().enumerate() {
-        pledge.rows[i] = check_row(view, terms, &pledge, i as u64, row)?;
+        pledge.rows[i] = check_row(bonds, records, terms, &pledge, i as u64, row)?;
     }
     Ok(pledge)
 }
