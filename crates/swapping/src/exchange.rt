@@ -105,9 +105,6 @@ fn move_rows<B: Book>(bonds: &mut B, loan: &LoanRow, i: u64, new: PledgeRow)
     let target = pledged_place(borrower, new.bond);
     let _ = bonds.shift(source, target, u64::from(new.face));
     let freed = pledged_place(borrower, old.bond);
-    let _ = bonds.shift(
-        freed,
-        available_place(borrower, old.bond),
-        u64::from(old.face),
-    );
+    let target = available_place(borrower, old.bond);
+    let _ = bonds.shift(freed, target, u64::from(old.face));
 }
