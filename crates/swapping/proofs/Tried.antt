@@ -21,7 +21,7 @@ use Rattle.orders.specs.declared.terms_of.Terms.{Terms}
 use Rattle.tables.specs.declared.bond.Bond.{Bond}
 use Rattle.pledge.specs.declared.rows.Pledge.{Pledge}
 use Rattle.worth.specs.Cover.{multiplier_at, needed_for, covered}
-use Rattle.swapping.specs.Swaps.{terms_in, loan_rules, place_rules, kept_rules, swap_rules, swap_moves, exchanged}
+use Rattle.swapping.specs.Swaps.{terms_in, loan_rules, place_rules, kept_rules, swap_rules, swap_moves, exchanged, SwappedIn, Swapped}
 
 -- a row as an order tells it
 abbrev told : PledgeRow → OrderRow
@@ -116,16 +116,30 @@ module _ (v : View) (n i : ℕ) (l : LoanRow) (new : OrderRow) where
             in
             accepted_settles (first_of (kept_rules v l i new)) tt tt before after (ys, loans') (sym (verdict multiplier needed later m w p) ∙ u) refl (ap₂ {C = List ℕ × Loans} (λ a b. (a, b)) moved' kept')
 
--- on an open day, of a loan that is there
+-- whether there is such a loan
+none_is : (b : Bool) (x : LoanRow) → None ≡ cond b None (Some x) → b ≡ true
+none_is true x e = refl
+none_is false x e = let z : ◌≡◌ {A = ℕ} 0 1 = cc in absurd (omega arith)
+
 found_is : (b : Bool) (x y : LoanRow) → Some y ≡ cond b None (Some x) → (b ≡ false) × (y ≡ x)
 found_is true x y e = let z : ◌≡◌ {A = ℕ} 0 1 = cc in absurd (omega arith)
 found_is false x y e = (refl, cc)
 
-pub on_day : (v : View) (day n i : ℕ) (new : OrderRow) (l row : LoanRow) (r : Result (Unit {0}) Refusal) (end : List ℕ × Loans) → false ≡ not_open v.records day → Some l ≡ cond (no_such_loan v.loans n) None (Some (loan_at v.loans n)) → row ≡ l → Settles {S = List ℕ × Loans} (first_of (kept_rules v row i new)) tt (v.bonds.amounts, v.loans) (exchanged v n i new) r end → Settles {S = List ℕ × Loans} (first_of (swap_rules v day n i new)) tt (v.bonds.amounts, v.loans) (exchanged v n i new) r end
-on_day v day n i new l row r end today there is s =
-    let f = found_is (no_such_loan v.loans n) (loan_at v.loans n) l there in
-    let same : row ≡ loan_at v.loans n = is ∙ f.1 in
-    let u : first_of (swap_rules v day n i new) ≡ first_of (kept_rules v row i new) =
-    rw (← today, f.0, same)
-    in
-    rw u s
+module _ (v : View) (day n i : ℕ) (new : OrderRow) (r : Result (Unit {0}) Refusal) (end : List ℕ × Loans) where
+  pub not_today : true ≡ not_open v.records day → r ≡ Err (refuse_order cause.Time 0) → end ≡ (v.bonds.amounts, v.loans) → Swapped v day n i new r end
+  unfolding Swapped
+  not_today e a t =
+      rw (a, t) (refused_settles (first_of (swap_rules v day n i new)) tt (v.bonds.amounts, v.loans) (exchanged v n i new) (refuse_order cause.Time 0) (rw (← e)))
+
+  pub not_there : false ≡ not_open v.records day → None ≡ cond (no_such_loan v.loans n) None (Some (loan_at v.loans n)) → r ≡ Err (refuse_order cause.Loan 0) → end ≡ (v.bonds.amounts, v.loans) → Swapped v day n i new r end
+  unfolding Swapped
+  not_there today e a t =
+      rw (a, t) (refused_settles (first_of (swap_rules v day n i new)) tt (v.bonds.amounts, v.loans) (exchanged v n i new) (refuse_order cause.Loan 0) (rw (← today, none_is (no_such_loan v.loans n) (loan_at v.loans n) e)))
+
+  pub on_day : (l row : LoanRow) → false ≡ not_open v.records day → Some l ≡ cond (no_such_loan v.loans n) None (Some (loan_at v.loans n)) → row ≡ l → SwappedIn v row n i new r end → Swapped v day n i new r end
+  unfolding Swapped SwappedIn
+  on_day l row today there is s =
+      let f = found_is (no_such_loan v.loans n) (loan_at v.loans n) l there in
+      let same : row ≡ loan_at v.loans n = is ∙ f.1 in
+      let u : first_of (swap_rules v day n i new) ≡ first_of (kept_rules v row i new) = rw (← today, f.0, same) in
+      rw u s

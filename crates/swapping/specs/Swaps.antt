@@ -82,7 +82,12 @@ abbrev pub exchanged : View → ℕ → ℕ → OrderRow → List ℕ × Loans
 exchanged v n i new =
     (after_moves v.bonds.most v.bonds.amounts (swap_moves (loan_at v.loans n) i new), with_pledge v.loans n (with_row (loan_at v.loans n).pledge i (row_of new)))
 
+-- the same of the loan's own row, on an open day
+unfoldable pub SwappedIn : View → LoanRow → ℕ → ℕ → OrderRow → Result (Unit {0}) Refusal → List ℕ × Loans → Type 0
+SwappedIn v l n i new r after =
+    Settles (first_of (kept_rules v l i new)) tt (v.bonds.amounts, v.loans) (exchanged v n i new) r after
+
 -- what the call answers, and what it leaves of the bond book and the loans
-abbrev pub Swapped : View → ℕ → ℕ → ℕ → OrderRow → Result (Unit {0}) Refusal → List ℕ × Loans → Type 0
+unfoldable pub Swapped : View → ℕ → ℕ → ℕ → OrderRow → Result (Unit {0}) Refusal → List ℕ × Loans → Type 0
 Swapped v day n i new r after =
     Settles (first_of (swap_rules v day n i new)) tt (v.bonds.amounts, v.loans) (exchanged v n i new) r after

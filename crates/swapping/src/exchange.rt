@@ -7,7 +7,7 @@ ghost use Rattle.moves.specs.Many.{after_moves};
 ghost use Rattle.records.specs.Kept.{kept_of};
 ghost use Rattle.lending.specs.View.{viewed};
 ghost use Rattle.register.specs.Loans.{loan_at, no_such_loan};
-ghost use Rattle.swapping.specs.Swaps.{kept_rules, swap_moves, exchanged, Swapped};
+ghost use Rattle.swapping.specs.Swaps.{swap_moves, SwappedIn, Swapped};
 
 use crate::judging::{check_loan, find_later, row_of, terms_in};
 use book::{Book, available_place, pledged_place};
@@ -21,22 +21,8 @@ use terms::{Cause, Layer, OrderRow, Refusal};
 use worth::{multiplier_of, needed};
 
 /// Exchanges a row of a loan's pledge for another.
+#[tactic(auto, using(crate::proofs::Tried::not_today, crate::proofs::Tried::not_there, crate::proofs::Tried::on_day))]
 pub fn swap<B: Book>(
-    bonds: &mut B,
-    records: &Records,
-    loans: &mut Register,
-    day: u32,
-    loan: u64,
-    row: u64,
-    new: OrderRow,
-) -> Result<(), Refusal>
-    ensures { Swapped (viewed (ledger B.Book bonds.old) (kept_of records.now) loans.old) day loan row new result (B.Book.amounts bonds.new, loans.new) }
-{
-    swap_on(bonds, records, loans, day, loan, row, new)
-}
-
-// The day and the loan are looked at first.
-fn swap_on<B: Book>(
     bonds: &mut B,
     records: &Records,
     loans: &mut Register,
@@ -69,7 +55,7 @@ fn swap_in<B: Book>(
 ) -> Result<(), Refusal>
     requires there { no_such_loan loans.old loan ≡ false }
     requires same { kept.now ≡ loan_at loans.old loan }
-    ensures { Settles (first_of (kept_rules (viewed (ledger B.Book bonds.old) (kept_of records.now) loans.old) kept.now row new)) tt (B.Book.amounts bonds.old, loans.old) (exchanged (viewed (ledger B.Book bonds.old) (kept_of records.now) loans.old) loan row new) result (B.Book.amounts bonds.new, loans.new) }
+    ensures { SwappedIn (viewed (ledger B.Book bonds.old) (kept_of records.now) loans.old) kept.now loan row new result (B.Book.amounts bonds.new, loans.new) }
 {
     check_loan(records, kept, row)?;
     let terms = terms_in(kept);
