@@ -33,6 +33,8 @@ pub fn borrow<B: Book, S: SharingRule>(
 }
 
 // Everything is checked before anything is booked, also that a loan row is unused, so the loan is always added.
+// Not joined with `borrow`: the arm that `?` leaves needs a proof file, and a bug in the public call is to be
+// refused at its own line.
 fn borrow_on<B: Book, S: SharingRule>(
     bonds: &mut B,
     rule: &S,

@@ -3,7 +3,7 @@ ghost use Rattle.std.specs.Prelude.{◌≡◌, ◌<◌, true, IfOk, sum};
 ghost use Rattle.terms.specs.Faces.{good_face};
 ghost use Rattle.terms.specs.Table.{first_of, answered};
 ghost use Rattle.book.specs.Ledgers.{ledger};
-ghost use Rattle.records.specs.Kept.{kept_of, bond_at};
+ghost use Rattle.records.specs.Kept.{bond_at};
 ghost use Rattle.loan.specs.Kept.{row_in};
 ghost use Rattle.borrowing.specs.Deals.{loans_rules, pool_rules, worth_rules, row_fits, rows_fit, room_rules, deal_rules, shares_of, begun};
 
@@ -14,7 +14,6 @@ use lending::View;
 use loan::{Dues, Loan, LoanRow, Matter, Stage};
 use orders::Terms;
 use pledge::{Pledge, PledgeRow};
-use records::Records;
 use share::SharingRule;
 use terms::{Cause, Layer, Refusal};
 use worth::{check_row_limits, is_covered, is_lent_above};

@@ -1,5 +1,5 @@
 //! The rows of a pledge, what they are worth at the held prices, and the face of one bond in them.
-ghost use Rattle.std.specs.Prelude.{◌≡◌, ◌^◌, ◌<◌, sum_by, nat_lt};
+ghost use Rattle.std.specs.Prelude.{◌≡◌, sum_by, nat_lt};
 ghost use Rattle.pledge.specs.Rows.{row_worth, row_face, worth_of, face_of, any_of};
 
 use figures::values::row_value;

@@ -62,7 +62,8 @@ impl Pledge {
         self.swap_row(exchange)
     }
 
-    // The other rows are counted before the guard holds this one.
+    // The other rows are counted before the guard holds this one. Not joined with `swap`: the proof needs a file,
+    // and a bug in the public call is to be refused at its own line.
     fn swap_row(&mut self, exchange: &Exchange) -> Result<(), Refusal>
         requires { exchange.now.row < 4 }
         ensures { Settles (judged (worth_of exchange.now.pricing.bonds.now exchange.now.pricing.multiplier (with_row self.old exchange.now.row exchange.now.new)) exchange.now.needed exchange.now.later) tt self.old (with_row self.old exchange.now.row exchange.now.new) result self.new }

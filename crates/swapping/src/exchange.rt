@@ -1,7 +1,5 @@
 //! The call swap. `day` is the number of the day that the caller holds.
 ghost use Rattle.std.specs.Prelude.{◌≡◌, false};
-ghost use Rattle.terms.specs.Table.{first_of};
-ghost use Rattle.terms.specs.Refusals.{Settles};
 ghost use Rattle.book.specs.Ledgers.{ledger};
 ghost use Rattle.moves.specs.Many.{after_moves};
 ghost use Rattle.records.specs.Kept.{kept_of};

@@ -13,7 +13,7 @@ use records::Records;
 use terms::{Cause, Layer, Refusal};
 use worth::is_row_above;
 
-// The terms of a kept loan.
+// The terms of a kept loan. No `From`: the two types are of crates that do not know each other.
 pub(crate) fn terms_in(loan: &LoanRow) -> Terms
     ensures { result ≡ terms_in loan.now }
 {

@@ -29,6 +29,8 @@ fn is_above(limit: u16, total: u128, face: u128) -> bool
     1_000 * face > u128::from(limit) * total
 }
 
+// The two limits differ in the figure of the bond and in the total over the loans; what is common is `is_above`.
+
 /// Whether a face more of a bond out to a borrower would pass the bond's lent limit.
 pub fn is_lent_above<B: Book>(view: &View<B>, borrower: u8, bond: u8, face: u32) -> bool
     ensures { result ≡ lent_above view.now borrower bond face }
