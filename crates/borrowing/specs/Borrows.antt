@@ -7,7 +7,8 @@ use Rattle.terms.specs.declared.refusal.Refusal.{Refusal}
 use Rattle.terms.specs.declared.refusal.Cause.TheVariants as cause
 use Rattle.book.specs.Places.{available, pledged}
 use Rattle.moves.specs.Columns.{available_column}
-use Rattle.moves.specs.Many.{Move, after_moves, gather_moves}
+use Rattle.moves.specs.Many.{Move, after_moves, moves_by}
+use Rattle.moves.specs.declared.many.Way.TheVariants.{Into}
 use Rattle.records.specs.Times.{not_open}
 use Rattle.pledge.specs.declared.rows.PledgeRow.{PledgeRow}
 use Rattle.loan.specs.declared.kept.LoanRow.{LoanRow}
@@ -44,7 +45,7 @@ row_moves borrower (row ∷ rows) = row_move borrower row ∷ row_moves borrower
 -- the rows are pledged, and each share moves from its lender to the borrower
 abbrev pub loan_moves : LoanRow → List Move
 loan_moves l =
-    row_moves l.borrower l.pledge.rows ++ gather_moves (available_column l.bond) (available l.borrower l.bond) 0 l.shares
+    row_moves l.borrower l.pledge.rows ++ moves_by (available_column l.bond) (Into (available l.borrower l.bond)) 0 l.shares
 
 -- what the bond book and the loans are after a loan is made
 abbrev pub lent : View → LoanRow → List ℕ × Loans

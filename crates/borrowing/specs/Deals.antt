@@ -10,7 +10,7 @@ use Rattle.book.specs.Moves.{room}
 use Rattle.book.specs.Places.{available, pledged}
 use Rattle.figures.specs.Fees.{rate_of}
 use Rattle.allot.specs.Allotments.{in_units, rule_shares}
-use Rattle.records.specs.Kept.{Kept, bond_at}
+use Rattle.records.specs.Kept.{bond_at}
 use Rattle.pledge.specs.declared.rows.Pledge.{Pledge}
 use Rattle.pledge.specs.declared.rows.PledgeRow.{PledgeRow}
 use Rattle.loan.specs.declared.kept.LoanRow.{LoanRow}
@@ -22,6 +22,7 @@ use Rattle.lending.specs.Lendable.{lendable_to}
 use Rattle.worth.specs.Concentration.{lent_above, row_limits}
 use Rattle.worth.specs.Cover.{covered}
 use Rattle.orders.specs.declared.terms_of.Terms.{Terms}
+use Rattle.records.specs.declared.kept.Records.{Records}
 
 -- the borrower has as many unclosed loans as it may have, or no loan row is unused
 abbrev pub loans_rules : View → Terms → List (Bool × Refusal)
@@ -65,7 +66,7 @@ shares_of rule v t =
     rule_shares rule (bond_at v.records t.bond).unit (lendable_to v t.borrower t.bond) t.face
 
 -- a loan with these shares as it begins
-abbrev pub begun : Kept → Terms → Pledge → List ℕ → LoanRow
+abbrev pub begun : Records → Terms → Pledge → List ℕ → LoanRow
 begun k t p shares = record {
   borrower = t.borrower;
   bond = t.bond;

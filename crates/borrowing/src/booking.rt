@@ -6,12 +6,12 @@ ghost use Rattle.loan.specs.Kept.{row_of};
 
 use book::{Book, available_place, pledged_place};
 use loan::Loan;
-use moves::{Column, gather};
+use moves::{Column, Way, move_each};
 use pledge::PledgeRow;
 
 // Moves a row from what the borrower has available to what it has pledged.
 fn pledge_row<B: Book>(bonds: &mut B, borrower: u8, row: PledgeRow)
-    ensures { B.Book.amounts bonds.new ≡ after_move B.Book.most (B.Book.amounts bonds.old) (row_move borrower row) }
+    ensures { B.Book.amounts bonds.new ≡ after_move B.Book.LARGEST (B.Book.amounts bonds.old) (row_move borrower row) }
 {
     let source = available_place(borrower, row.bond);
     let target = pledged_place(borrower, row.bond);
@@ -20,7 +20,7 @@ fn pledge_row<B: Book>(bonds: &mut B, borrower: u8, row: PledgeRow)
 
 #[tactic(auto, using(crate::proofs::Moved::row_moved, crate::proofs::Moved::rows_moved))]
 fn pledge_rows<B: Book>(bonds: &mut B, borrower: u8, rows: &[PledgeRow; 4])
-    ensures { B.Book.amounts bonds.new ≡ after_moves B.Book.most (B.Book.amounts bonds.old) (row_moves borrower rows.now) }
+    ensures { B.Book.amounts bonds.new ≡ after_moves B.Book.LARGEST (B.Book.amounts bonds.old) (row_moves borrower rows.now) }
 {
     for &row in rows {
         pledge_row(bonds, borrower, row);
@@ -30,9 +30,10 @@ fn pledge_rows<B: Book>(bonds: &mut B, borrower: u8, rows: &[PledgeRow; 4])
 // Pledges the rows of a loan, and moves each share from its lender to the borrower.
 #[tactic(auto, using(crate::proofs::Moved::after_both))]
 pub(crate) fn move_bonds<B: Book>(bonds: &mut B, loan: &Loan)
-    ensures { B.Book.amounts bonds.new ≡ after_moves B.Book.most (B.Book.amounts bonds.old) (loan_moves (row_of loan.now)) }
+    ensures { B.Book.amounts bonds.new ≡ after_moves B.Book.LARGEST (B.Book.amounts bonds.old) (loan_moves (row_of loan.now)) }
 {
     pledge_rows(bonds, loan.borrower, &loan.pledge.rows);
     let target = available_place(loan.borrower, loan.bond);
-    gather(bonds, Column::available(loan.bond), target, &loan.shares.by);
+    let lenders = Column::available(loan.bond);
+    move_each(bonds, lenders, Way::Into(target), &loan.shares.by);
 }

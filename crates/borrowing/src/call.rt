@@ -2,7 +2,6 @@
 ghost use Rattle.std.specs.Prelude.{◌≡◌};
 ghost use Rattle.terms.specs.Table.{first_of, answered};
 ghost use Rattle.book.specs.Ledgers.{ledger};
-ghost use Rattle.records.specs.Kept.{kept_of};
 ghost use Rattle.lending.specs.View.{viewed};
 ghost use Rattle.loan.specs.Kept.{row_in};
 ghost use Rattle.borrowing.specs.Borrows.{order_rules, loan_of, Borrowed};
@@ -27,7 +26,7 @@ pub fn borrow<B: Book, S: SharingRule>(
     day: u32,
     order: &Order,
 ) -> Result<u64, Refusal>
-    ensures { Borrowed (S.SharingRule.meaning rule.now) (viewed (ledger B.Book bonds.old) (kept_of records.now) loans.old) day order.now result (B.Book.amounts bonds.new, loans.new) }
+    ensures { Borrowed (S.SharingRule.meaning rule.now) (viewed (ledger B.Book bonds.old) records.now loans.old) day order.now result (B.Book.amounts bonds.new, loans.new) }
 {
     borrow_on(bonds, rule, records, loans, day, order)
 }
@@ -43,7 +42,7 @@ fn borrow_on<B: Book, S: SharingRule>(
     day: u32,
     order: &Order,
 ) -> Result<u64, Refusal>
-    ensures { Borrowed (S.SharingRule.meaning rule.now) (viewed (ledger B.Book bonds.old) (kept_of records.now) loans.old) day order.now result (B.Book.amounts bonds.new, loans.new) }
+    ensures { Borrowed (S.SharingRule.meaning rule.now) (viewed (ledger B.Book bonds.old) records.now loans.old) day order.now result (B.Book.amounts bonds.new, loans.new) }
 {
     if records.is_not_open(day) {
         return Err(Layer::Order.refuse(Cause::Time, 0));

@@ -4,10 +4,10 @@ use crate::desk::Desk;
 use book::Book;
 use draft::Draft;
 use netting::{NettingBonds, NettingCash};
-use pool::Pool;
+use pool::{Parts, Pool};
 use records::Figures;
 use script::{BookKind, Opening, RuleKind};
-use share::{EvenRule, FirstRule};
+use share::{EvenRule, FirstRule, SharingRule};
 use standing::{StandingBonds, StandingCash};
 
 /// What a pool is to be opened with, and the desk that runs the rest of its script with it.
@@ -53,12 +53,18 @@ impl<'d, 'a, 'o> Opener<'d, 'a, 'o> {
     fn with_books<B: Book + Drop, C: Book + Drop>(self, bonds: B, cash: C) -> Result<(), Stop<'a>> {
         let draft = self.draft;
         match draft.rule {
-            RuleKind::First => self
-                .desk
-                .run(Pool::open(bonds, cash, FirstRule, &self.figures)),
-            RuleKind::Even => self
-                .desk
-                .run(Pool::open(bonds, cash, EvenRule, &self.figures)),
+            RuleKind::First => self.with_parts(bonds, cash, FirstRule),
+            RuleKind::Even => self.with_parts(bonds, cash, EvenRule),
         }
+    }
+
+    fn with_parts<B: Book + Drop, C: Book + Drop, S: SharingRule + Drop>(
+        self,
+        bonds: B,
+        cash: C,
+        rule: S,
+    ) -> Result<(), Stop<'a>> {
+        let opened = Pool::open(Parts { bonds, cash, rule }, &self.figures);
+        self.desk.run(opened)
     }
 }

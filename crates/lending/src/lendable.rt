@@ -1,12 +1,11 @@
 //! What members may lend of a bond.
 ghost use Rattle.std.specs.Prelude.{◌≡◌};
-ghost use Rattle.records.specs.Kept.{kept_of, preset_at};
 ghost use Rattle.terms.specs.Table.{first_of, answered};
 ghost use Rattle.lending.specs.Lendable.{lendable_at, lendable_rules, lendable_by, lendable_to};
 
 use crate::view::View;
 use book::{Book, available_place, held};
-use records::{Records, is_no_bond, is_no_member};
+use records::{is_no_bond, is_no_member};
 use std::array;
 use tables::lendable;
 use terms::{Cause, Layer, Refusal};
@@ -51,18 +50,8 @@ impl<B: Book> View<'_, B> {
             return 0;
         };
         let available = held(self.bonds, available_place(account, bond));
-        let preset = preset_of(records, account, bond);
+        let preset = lender.presets.get(usize::from(bond)).copied().unwrap_or(0);
         let lent = self.loans.lent(account, bond).min(u128::from(u64::MAX));
         lendable(*lender, available, preset, lent as u64)
     }
-}
-
-// An account's preset for a bond; 0 where there is no such account or bond.
-fn preset_of(records: &Records, account: u8, bond: u8) -> u64
-    ensures { result ≡ preset_at (kept_of records.now) account bond }
-{
-    let Some(presets) = records.presets.get(usize::from(account)) else {
-        return 0;
-    };
-    presets.get(usize::from(bond)).copied().unwrap_or(0)
 }

@@ -18,7 +18,6 @@ impl<'a, B: Book> Model for View<'a, B> {
     ghost Value = { View };
 
     ghost use Rattle.book.specs.Ledgers.{ledger};
-    ghost use Rattle.records.specs.Kept.{kept_of};
-
-    ghost view = { λ p. record { bonds = ledger B.Book p.bonds.now; records = kept_of p.records.now; loans = p.loans.now } };
+    
+    ghost view = { λ p. record { bonds = ledger B.Book p.bonds.now; records = p.records.now; loans = p.loans.now } };
 }

@@ -6,10 +6,11 @@ use Rattle.terms.specs.Faces.{good_face}
 use Rattle.terms.specs.Table.{first_of}
 use Rattle.terms.specs.declared.order.Order.{Order}
 use Rattle.terms.proofs.Rows.{none_holds}
-use Rattle.records.specs.Kept.{Kept, bond_at}
+use Rattle.records.specs.Kept.{bond_at}
 use Rattle.orders.specs.Terms.{terms_rules}
+use Rattle.records.specs.declared.kept.Records.{Records}
 
-module _ (k : Kept) (o : Order) where
+module _ (k : Records) (o : Order) where
   pub record TermsGood : Type 0 where
     pub borrower : o.borrower < 32
     pub bond : o.bond < 16

@@ -6,14 +6,14 @@ use Rattle.terms.specs.declared.order.OrderRow.{OrderRow}
 use Rattle.terms.specs.declared.refusal.Refusal.{Refusal}
 use Rattle.terms.proofs.Rows.{was_accepted, refused_before, first_after}
 use Rattle.book.specs.Ledgers.{Ledger}
-use Rattle.records.specs.Kept.{Kept}
 use Rattle.pledge.specs.Rows.{with_row}
 use Rattle.pledge.specs.declared.rows.Pledge.{Pledge}
 use Rattle.pledge.specs.declared.rows.PledgeRow.{PledgeRow}
 use Rattle.orders.specs.Rows.{row_rules, row_of, rows_rules, filled, outcome}
 use Rattle.orders.specs.declared.terms_of.Terms.{Terms}
+use Rattle.records.specs.declared.kept.Records.{Records}
 
-module _ (bonds : Ledger) (k : Kept) (t : Terms) (rows : List OrderRow) (all : Result Pledge Refusal) (p : Pledge) (i : ℕ) (inv : all ≡ outcome bonds k t p i (drop i rows)) where
+module _ (bonds : Ledger) (k : Records) (t : Terms) (rows : List OrderRow) (all : Result Pledge Refusal) (p : Pledge) (i : ℕ) (inv : all ≡ outcome bonds k t p i (drop i rows)) where
   pub row_refused : (row d : OrderRow) (r : Refusal) → i < length rows → row ≡ get_or rows i d → Err r ≡ answered (first_of (row_rules bonds k t p i row)) (row_of row) → Err r ≡ all
   row_refused row d r h is e =
       let rest : List OrderRow = drop (i + 1) rows in

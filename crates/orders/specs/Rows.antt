@@ -10,14 +10,15 @@ use Rattle.terms.specs.declared.refusal.Cause.TheVariants as cause
 use Rattle.terms.specs.declared.refusal.Layer.TheVariants as layer
 use Rattle.book.specs.Ledgers.{Ledger}
 use Rattle.book.specs.Places.{available}
-use Rattle.records.specs.Kept.{Kept, no_bond, bond_at}
+use Rattle.records.specs.Kept.{no_bond, bond_at}
 use Rattle.pledge.specs.Rows.{any_of, with_row}
 use Rattle.pledge.specs.declared.rows.Pledge.{Pledge}
 use Rattle.pledge.specs.declared.rows.PledgeRow.{PledgeRow}
 use Rattle.orders.specs.declared.terms_of.Terms.{Terms}
+use Rattle.records.specs.declared.kept.Records.{Records}
 
 -- a row pledged on these terms beside the rows of p; the spot is the row's index
-abbrev pub row_rules : Ledger → Kept → Terms → Pledge → ℕ → OrderRow → List (Bool × Refusal)
+abbrev pub row_rules : Ledger → Records → Terms → Pledge → ℕ → OrderRow → List (Bool × Refusal)
 row_rules bonds k t p i row =
     (no_bond row.bond || row.bond == t.bond || any_of row.bond p.rows || not (good_face row.face (bond_at k row.bond).unit), refuse_order cause.Rows i)
     ∷ (((bond_at k row.bond).discount == 0), refuse_order cause.Eligibility i)
@@ -29,7 +30,7 @@ abbrev pub row_of : OrderRow → PledgeRow
 row_of row = record { bond = row.bond; face = row.face }
 
 -- the rows from index i on, each beside the rows before it
-abbrev pub rows_rules : Ledger → Kept → Terms → Pledge → ℕ → List OrderRow → List (Bool × Refusal)
+abbrev pub rows_rules : Ledger → Records → Terms → Pledge → ℕ → List OrderRow → List (Bool × Refusal)
 rows_rules bonds k t p i [] = []
 rows_rules bonds k t p i (row ∷ rows) =
     row_rules bonds k t p i row ++ rows_rules bonds k t (with_row p i (row_of row)) (suc i) rows
@@ -40,7 +41,7 @@ filled p i [] = p
 filled p i (row ∷ rows) = filled (with_row p i (row_of row)) (suc i) rows
 
 -- the pledge that the rows from index i on make beside the rows of p, or the first that is refused
-abbrev pub outcome : Ledger → Kept → Terms → Pledge → ℕ → List OrderRow → Result Pledge Refusal
+abbrev pub outcome : Ledger → Records → Terms → Pledge → ℕ → List OrderRow → Result Pledge Refusal
 outcome bonds k t p i rows = answered (first_of (rows_rules bonds k t p i rows)) (filled p i rows)
 
 -- four rows, none used

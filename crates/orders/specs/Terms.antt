@@ -8,11 +8,12 @@ use Rattle.terms.specs.declared.order.Order.{Order}
 use Rattle.terms.specs.declared.refusal.Refusal.{Refusal}
 use Rattle.terms.specs.declared.refusal.Cause.TheVariants as cause
 use Rattle.tables.specs.Accounts.{may_borrow}
-use Rattle.records.specs.Kept.{Kept, no_member, no_bond, account_at, bond_at}
+use Rattle.records.specs.Kept.{no_member, no_bond, account_at, bond_at}
 use Rattle.orders.specs.declared.terms_of.Terms.{Terms}
+use Rattle.records.specs.declared.kept.Records.{Records}
 
 -- who borrows, and the face of the bond that is borrowed
-abbrev pub lent_rules : Kept → Order → List (Bool × Refusal)
+abbrev pub lent_rules : Records → Order → List (Bool × Refusal)
 lent_rules k o =
     (no_member o.borrower, refuse_order cause.Account o.borrower)
     ∷ (not (may_borrow (account_at k o.borrower).right), refuse_order cause.Right o.borrower)
@@ -22,7 +23,7 @@ lent_rules k o =
     ∷ []
 
 -- when it comes, for how long, and how many rows back it
-abbrev pub time_rules : Kept → Order → List (Bool × Refusal)
+abbrev pub time_rules : Records → Order → List (Bool × Refusal)
 time_rules k o =
     (not (is_kind o.kind), refuse_order cause.Figure 0)
     ∷ (not (in_window (kind_of o.kind) k.time.minute), refuse_order cause.Time 0)
@@ -31,11 +32,11 @@ time_rules k o =
     ∷ (not (inside 1 4 o.count), refuse_order cause.Rows 0)
     ∷ []
 
-abbrev pub terms_rules : Kept → Order → List (Bool × Refusal)
+abbrev pub terms_rules : Records → Order → List (Bool × Refusal)
 terms_rules k o = lent_rules k o ++ time_rules k o
 
 -- the terms of a loan by an order that meets them
-abbrev pub terms_of : Kept → Order → Terms
+abbrev pub terms_of : Records → Order → Terms
 terms_of k o = record {
   borrower = o.borrower;
   bond = o.bond;

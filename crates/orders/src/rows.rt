@@ -3,7 +3,6 @@
 ghost use Rattle.std.specs.Prelude.{◌≡◌, ◌≤◌, length, take};
 ghost use Rattle.terms.specs.Table.{first_of, answered};
 ghost use Rattle.book.specs.Ledgers.{ledger};
-ghost use Rattle.records.specs.Kept.{kept_of};
 ghost use Rattle.orders.specs.Rows.{row_rules, row_of, rows_rules, unpledged, rows_of, pledge_of, outcome};
 
 use crate::terms_of::Terms;
@@ -21,7 +20,7 @@ pub fn check_row<B: Book>(
     index: u64,
     row: OrderRow,
 ) -> Result<PledgeRow, Refusal>
-    ensures { result ≡ answered (first_of (row_rules (ledger B.Book bonds.now) (kept_of records.now) terms.now pledge.now index row)) (row_of row) }
+    ensures { result ≡ answered (first_of (row_rules (ledger B.Book bonds.now) records.now terms.now pledge.now index row)) (row_of row) }
 {
     if is_no_bond(row.bond)
         || row.bond == u64::from(terms.bond)
@@ -53,7 +52,7 @@ pub fn check_rows<B: Book>(
     terms: &Terms,
     order: &Order,
 ) -> Result<Pledge, Refusal>
-    ensures { result ≡ answered (first_of (rows_rules (ledger B.Book bonds.now) (kept_of records.now) terms.now unpledged 0 (rows_of order.now))) (pledge_of order.now) }
+    ensures { result ≡ answered (first_of (rows_rules (ledger B.Book bonds.now) records.now terms.now unpledged 0 (rows_of order.now))) (pledge_of order.now) }
 {
     pledge_of(bonds, records, terms, front(&order.rows, order.count))
 }
@@ -75,7 +74,7 @@ fn pledge_of<B: Book>(
     rows: &[OrderRow],
 ) -> Result<Pledge, Refusal>
     requires { length rows.now ≤ 4 }
-    ensures { result ≡ outcome (ledger B.Book bonds.now) (kept_of records.now) terms.now unpledged 0 rows.now }
+    ensures { result ≡ outcome (ledger B.Book bonds.now) records.now terms.now unpledged 0 rows.now }
 {
     let mut pledge = Pledge::default();
     for (i, &row) in rows.iter().enumerate() {

@@ -1,7 +1,6 @@
 //! The terms of an order: who borrows what, for how long, and when the order comes.
 ghost use Rattle.std.specs.Prelude.{◌≡◌, ◌+◌, ◌<◌, OnOk};
 ghost use Rattle.terms.specs.Table.{first_of, answered};
-ghost use Rattle.records.specs.Kept.{kept_of};
 ghost use Rattle.orders.specs.Terms.{lent_rules, time_rules, terms_rules, terms_of};
 
 use records::{Records, is_no_bond, is_no_member};
@@ -22,7 +21,7 @@ pub struct Terms {
 
 /// The terms of an order, or the first that is refused; its rows are not looked at.
 pub fn check_terms(records: &Records, order: &Order) -> Result<Terms, Refusal>
-    ensures { result ≡ answered (first_of (terms_rules (kept_of records.now) order.now)) (terms_of (kept_of records.now) order.now) }
+    ensures { result ≡ answered (first_of (terms_rules records.now order.now)) (terms_of records.now order.now) }
 {
     check_lent(records, order)?;
     let due = check_time(records, order)?;
@@ -37,7 +36,7 @@ pub fn check_terms(records: &Records, order: &Order) -> Result<Terms, Refusal>
 
 // Who borrows, and the face of the bond that is borrowed.
 fn check_lent(records: &Records, order: &Order) -> Result<(), Refusal>
-    ensures { result ≡ answered (first_of (lent_rules (kept_of records.now) order.now)) tt }
+    ensures { result ≡ answered (first_of (lent_rules records.now order.now)) tt }
 {
     if is_no_member(order.borrower) {
         return Err(Layer::Order.refuse(Cause::Account, order.borrower));
@@ -61,7 +60,7 @@ fn check_lent(records: &Records, order: &Order) -> Result<(), Refusal>
 // The due day, from when the order comes, for how long it borrows, and how many rows back it.
 fn check_time(records: &Records, order: &Order) -> Result<u32, Refusal>
     requires { order.now.bond < 16 }
-    ensures answer { result ≡ answered (first_of (time_rules (kept_of records.now) order.now)) (records.now.time.day + order.now.term) }
+    ensures answer { result ≡ answered (first_of (time_rules records.now order.now)) (records.now.time.day + order.now.term) }
     ensures short { OnOk result (order.now.term < 256) }
 {
     let kind = OrderKind::try_from(order.kind)?;

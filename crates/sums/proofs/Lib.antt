@@ -1,3 +1,4 @@
+pub mod Filled
 pub mod Fronts
 pub mod Listed
 pub mod Mapped

@@ -1,8 +1,7 @@
 -- Lists of one value for each of some numbers: their length, what stands where, and the loop that writes one. Assumes nothing.
-use Rattle.std.proofs.Common.{◌≡◌, ℕ, zero, suc, ◌+◌, ◌<◌, ◌≤◌, List, ◌∷◌, map, length, get_or, set, sym, refl, ap, ◌∙◌, arith, add-one}
+use Rattle.std.proofs.Common.{◌≡◌, ℕ, zero, suc, ◌+◌, ◌<◌, ◌≤◌, List, length, get_or, set, sym, refl, ap, ◌∙◌, arith}
 use Rattle.std.proofs.lemmas.List.Edits.{fill_by_more}
 use Rattle.std.proofs.lemmas.List.{ext_get_or}
-use Rattle.std.specs.List.{range_with_len}
 use Rattle.sums.specs.Each.{each}
 
 pub each_length : (f : ℕ → ℕ) (from n : ℕ) → length (each f from n) ≡ n
@@ -37,9 +36,3 @@ filled_all f out n long done =
     let below : i < n = omega arith in
     let here : i ≡ 0 + i = omega arith in
     done i below ∙ (ap f here ∙ sym (each_at f 0 n i below)))
-
--- the same list by the library's range
-pub each_range : (f : ℕ → ℕ) (from n : ℕ) → each f from n ≡ map f (range_with_len from n)
-unfolding each
-each_range f from zero = refl
-each_range f from (suc n) = rw (add-one from) (ap (λ (rest : List ℕ). f from ∷ rest) (each_range f (suc from) n))

@@ -10,7 +10,6 @@ use Rattle.book.specs.Ledgers.{Ledger}
 use Rattle.book.specs.Moves.{room}
 use Rattle.book.specs.Places.{available, pledged}
 use Rattle.moves.specs.Many.{Move, after_moves}
-use Rattle.records.specs.Kept.{Kept}
 use Rattle.records.specs.Times.{not_open}
 use Rattle.pledge.specs.Rows.{with_row}
 use Rattle.pledge.specs.declared.rows.PledgeRow.{PledgeRow}
@@ -22,6 +21,7 @@ use Rattle.worth.specs.Concentration.{row_above}
 use Rattle.worth.specs.Cover.{covered}
 use Rattle.orders.specs.Rows.{row_rules, row_of}
 use Rattle.orders.specs.declared.terms_of.Terms.{Terms}
+use Rattle.records.specs.declared.kept.Records.{Records}
 
 -- the terms of a kept loan
 abbrev pub terms_in : LoanRow → Terms
@@ -32,7 +32,7 @@ abbrev pub row_at : LoanRow → ℕ → PledgeRow
 row_at l i = slice_index_or l.pledge.rows i (record { bond = 0; face = 0 })
 
 -- the loan is closed, or has no such row; it is late; its due day has come
-abbrev pub loan_rules : Kept → LoanRow → ℕ → List (Bool × Refusal)
+abbrev pub loan_rules : Records → LoanRow → ℕ → List (Bool × Refusal)
 loan_rules k l i =
     (is_closed l || not (nat_lt 0 (row_at l i).face), refuse_order cause.Stage 0)
     ∷ (l.dues.late, refuse_order cause.Late 0)

@@ -2,7 +2,6 @@
 ghost use Rattle.std.specs.Prelude.{◌≡◌, false};
 ghost use Rattle.book.specs.Ledgers.{ledger};
 ghost use Rattle.moves.specs.Many.{after_moves};
-ghost use Rattle.records.specs.Kept.{kept_of};
 ghost use Rattle.lending.specs.View.{viewed};
 ghost use Rattle.register.specs.Loans.{loan_at, no_such_loan};
 ghost use Rattle.swapping.specs.Swaps.{swap_moves, SwappedIn, Swapped};
@@ -29,7 +28,7 @@ pub fn swap<B: Book>(
     row: u64,
     new: OrderRow,
 ) -> Result<(), Refusal>
-    ensures { Swapped (viewed (ledger B.Book bonds.old) (kept_of records.now) loans.old) day loan row new result (B.Book.amounts bonds.new, loans.new) }
+    ensures { Swapped (viewed (ledger B.Book bonds.old) records.now loans.old) day loan row new result (B.Book.amounts bonds.new, loans.new) }
 {
     if records.is_not_open(day) {
         return Err(Layer::Order.refuse(Cause::Time, 0));
@@ -53,7 +52,7 @@ fn swap_in<B: Book>(
 ) -> Result<(), Refusal>
     requires there { no_such_loan loans.old loan ≡ false }
     requires same { kept.now ≡ loan_at loans.old loan }
-    ensures { SwappedIn (viewed (ledger B.Book bonds.old) (kept_of records.now) loans.old) kept.now loan row new result (B.Book.amounts bonds.new, loans.new) }
+    ensures { SwappedIn (viewed (ledger B.Book bonds.old) records.now loans.old) kept.now loan row new result (B.Book.amounts bonds.new, loans.new) }
 {
     check_loan(records, kept, row)?;
     let terms = terms_in(kept);
@@ -81,7 +80,7 @@ fn swap_in<B: Book>(
 
 // The new row is pledged, and the old one is freed.
 fn move_rows<B: Book>(bonds: &mut B, loan: &LoanRow, i: u64, new: PledgeRow)
-    ensures { B.Book.amounts bonds.new ≡ after_moves B.Book.most (B.Book.amounts bonds.old) (swap_moves loan.now i (record { bond = new.bond; face = new.face })) }
+    ensures { B.Book.amounts bonds.new ≡ after_moves B.Book.LARGEST (B.Book.amounts bonds.old) (swap_moves loan.now i (record { bond = new.bond; face = new.face })) }
 {
     let old = row_of(&loan.pledge.rows, i);
     let borrower = loan.borrower;

@@ -1,7 +1,6 @@
 //! What a swap has to meet before its value is tried, and after it.
 ghost use Rattle.std.specs.Prelude.{◌≡◌, ◌<◌, IfOk, slice_index_or};
 ghost use Rattle.terms.specs.Table.{first_of, answered};
-ghost use Rattle.records.specs.Kept.{kept_of};
 ghost use Rattle.swapping.specs.Swaps.{terms_in, loan_rules, place_rules};
 
 use book::{Book, available_place, has_room, held, pledged_place};
@@ -36,7 +35,7 @@ pub(crate) fn row_of(rows: &[PledgeRow; 4], i: u64) -> PledgeRow
 
 // Whether the loan may still exchange its row i.
 pub(crate) fn check_loan(records: &Records, loan: &LoanRow, i: u64) -> Result<(), Refusal>
-    ensures answer { result ≡ answered (first_of (loan_rules (kept_of records.now) loan.now i)) tt }
+    ensures answer { result ≡ answered (first_of (loan_rules records.now loan.now i)) tt }
     ensures used { IfOk result (λ _. i < 4) }
 {
     if loan.is_closed() || row_of(&loan.pledge.rows, i).face == 0 {

@@ -1,5 +1,5 @@
 use Rattle.std.proofs.Common.{◌/◌, rules}
-use Rattle.allot.proofs.Mapped.{mapped}
+use Rattle.sums.proofs.Mapped.{mapped}
 use Rattle.allot.proofs.in_units.Goals as goal
 
 pub returns : goal.returns

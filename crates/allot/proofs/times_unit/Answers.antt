@@ -1,5 +1,5 @@
 use Rattle.std.proofs.Common.{◌*◌, rules}
-use Rattle.allot.proofs.Mapped.{mapped, callable}
+use Rattle.sums.proofs.Mapped.{mapped, callable}
 use Rattle.allot.proofs.times_unit.Goals as goal
 
 pub map-requires : goal.map-requires

@@ -1,6 +1,6 @@
-use Rattle.std.proofs.Common.{min, refl, rules}
+use Rattle.std.proofs.Common.{min, rules}
 use Rattle.sums.proofs.Mapped.{mapped}
 use Rattle.share.proofs.even.capped.Goals as goal
 
 pub returns : goal.returns
-returns c = mapped (λ l. min l c.args.want) 0 _ (λ x y q k. search rules) c.args.limits.now c.map.result 32 c.map.ensures.items (search rules)
+returns c = mapped _ _ (λ l. min l c.args.want) (λ x r f k. search rules) _ _ 32 (search rules) c.map.ensures.items

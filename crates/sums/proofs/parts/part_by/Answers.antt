@@ -19,19 +19,6 @@ loop-i-init c =
       topped_start c.args.amount c.args.weights.now c.total-all.result c.total.result c.total-all.ensures.sum (c.total.ensures.sum ∙ ap sum floors),
     )
 
-pub overflow_add-parts : goal.overflow_add-parts
-overflow_add-parts c =
-    let here : c.loop-i.i < length c.args.weights.now = omega arith in
-    let floor = floor_is c.args.amount c.total-all.result c.args.weights.now c.loop-i.i c.total-all.ensures.sum here c.floor_parts-floors.result c.floor_parts-floors.ensures.parts in
-    omega (arith, part_below c.args.amount c.total-all.result c.args.weights.now c.loop-i.i c.total-all.ensures.sum here (omega arith))
-
-pub loop-i-preserved : goal.loop-i-preserved
-loop-i-preserved c =
-    let here : c.loop-i.i < length c.args.weights.now = omega arith in
-    let floor = floor_is c.args.amount c.total-all.result c.args.weights.now c.loop-i.i c.total-all.ensures.sum here c.floor_parts-floors.result c.floor_parts-floors.ensures.parts in
-    let more = topped_more c.args.amount c.total-all.result c.loop-i.left c.take_unit.result c.take_unit.new.left (get_or c.floor_parts-floors.result c.loop-i.i 0) c.args.weights.now c.loop-i.parts c.loop-i.i here (omega arith) floor c.take_unit.ensures.unit c.take_unit.ensures.rest in
-    (length-set _ _ _ ∙ c.loop-i.invariant.0, more ∙ c.loop-i.invariant.1)
-
 pub returns : goal.returns
 returns c =
     let is : c.loop-i.parts ≡ parted c.args.amount c.args.weights.now =

@@ -1,6 +1,6 @@
 use Rattle.std.proofs.Common.{rules}
 use Rattle.lending.specs.Lendable.{lendable_by}
-use Rattle.lending.proofs.Filled.{filled}
+use Rattle.sums.proofs.Filled.{filled}
 use Rattle.lending.proofs.view.View.lendable_to.Goals as goal
 
 pub returns : goal.returns
