@@ -1,2 +1,1 @@
 pub mod Together
-mod Turns
