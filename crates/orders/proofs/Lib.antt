@@ -1,2 +1,2 @@
 pub mod Accepted
-pub mod Filling
+mod Filling
