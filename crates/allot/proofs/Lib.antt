@@ -1,1 +1,2 @@
+pub mod Mapped
 pub mod Whole

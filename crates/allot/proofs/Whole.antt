@@ -5,7 +5,7 @@ use lib.ListN.{length-map}
 use Rattle.std.proofs.lemmas.Nat.{div-add-mod', le-div}
 use Rattle.std.proofs.lemmas.List.Sums.{sum_by-cons}
 use Rattle.share.specs.Shares.{Shared}
-use Rattle.allot.specs.Allotments.{in_units, times_unit, allotted, Makes, NoneMakes}
+use Rattle.allot.specs.Allotments.{in_units, times_unit, allotted, Makes, NoneMakes, ExactlyMade}
 use Rattle.std.proofs.lemmas.Bool.Decides.{nat_tests}
 
 -- past the end both are 0
@@ -33,10 +33,10 @@ sum_le (x ∷ xs) [] e h = omega arith
 sum_le (x ∷ xs) (y ∷ ys) e h = omega (arith, sum_by-cons (λ x. x) x xs, sum_by-cons (λ x. x) y ys, h 0, sum_le xs ys (omega arith) (λ k. h (suc k)))
 
 -- a share within the limit in units is within what can be lent
-pub share_fits : (u : ℕ) (shares lendable : List ℕ) (k : ℕ) → get_or shares k 0 ≤ get_or (in_units u lendable) k 0 → get_or shares k 0 * u ≤ get_or lendable k 0
+share_fits : (u : ℕ) (shares lendable : List ℕ) (k : ℕ) → get_or shares k 0 ≤ get_or (in_units u lendable) k 0 → get_or shares k 0 * u ≤ get_or lendable k 0
 share_fits u shares lendable k h = omega (arith, mul-le-mul_right u h, at_units u lendable k)
 
-pub makes : (u : ℕ) (lendable shares : List ℕ) (face : ℕ) → face % u ≡ 0 → length shares ≡ length lendable → Shared (in_units u lendable) (face / u) shares → Makes lendable face (times_unit u shares)
+makes : (u : ℕ) (lendable shares : List ℕ) (face : ℕ) → face % u ≡ 0 → length shares ≡ length lendable → Shared (in_units u lendable) (face / u) shares → Makes lendable face (times_unit u shares)
 makes u lendable shares face whole count s = record {
   count = length-map shares (λ x. x * u) ∙ count;
   within = λ k. omega (arith, at_times u shares k, share_fits u shares lendable k (s.within k));
@@ -48,7 +48,7 @@ units_at u [] k = sym (zero-div u)
 units_at u (x ∷ xs) zero = refl
 units_at u (x ∷ xs) (suc k) = units_at u xs k
 
-pub none_makes : (u : ℕ) (lendable : List ℕ) (face : ℕ) → 0 < u → sum (in_units u lendable) < face / u → NoneMakes u lendable face
+none_makes : (u : ℕ) (lendable : List ℕ) (face : ℕ) → 0 < u → sum (in_units u lendable) < face / u → NoneMakes u lendable face
 none_makes u lendable face p h shares m =
     let le : sum shares ≤ sum (in_units u lendable) =
     sum_le shares (in_units u lendable) (sym (length-map shares (λ s. s * u)) ∙ m.count ∙ sym (length-map lendable (λ x. x / u)))
@@ -57,27 +57,26 @@ none_makes u lendable face p h shares m =
     let top : face / u * u ≤ sum shares * u = omega (arith, div-add-mod' face u) in
     omega (arith, le_of_mul-le-mul_right top p)
 
--- what the loan's shares are, where the limits fall short and where they suffice
-pub no_shares : (rule : List ℕ → ℕ → List ℕ) (u : ℕ) (lendable : List ℕ) (face : ℕ) → sum (in_units u lendable) < face / u → None ≡ allotted rule u lendable face
-no_shares rule u lendable face h = grind (arith, nat_tests)
+-- of a loan: its limits in units, and the shares by a rule that keeps its law
+module _ (u face : ℕ) (lendable limits : List ℕ) (e : limits ≡ in_units u lendable) where
+  pub none_meant : (rule : List ℕ → ℕ → List ℕ) → sum limits < face / u → None ≡ allotted rule u lendable face
+  none_meant rule h = let few = ap sum e in grind (arith, nat_tests)
 
-pub some_shares : (rule : List ℕ → ℕ → List ℕ) (u : ℕ) (lendable : List ℕ) (face : ℕ) → face / u ≤ sum (in_units u lendable) → Some (times_unit u (rule (in_units u lendable) (face / u))) ≡ allotted rule u lendable face
-some_shares rule u lendable face h = grind (arith, nat_tests)
+  pub none_exact : sum limits < face / u → ExactlyMade u lendable face None
+  unfolding ExactlyMade
+  none_exact h some whole = none_makes u lendable face some (omega (arith, ap sum e))
 
--- a loan's shares from what each step made of the one before
-module _ (rule : List ℕ → ℕ → List ℕ) (u face : ℕ) (lendable limits shares out : List ℕ)
-    (in-units : limits ≡ in_units u lendable) (meant : shares ≡ rule limits (face / u)) (times : out ≡ times_unit u shares)
-    (enough : face / u ≤ sum limits) where
-  pub loan_meant : Some out ≡ allotted rule u lendable face
-  loan_meant =
-      ap Some (times ∙ ap (times_unit u) (meant ∙ ap (λ ls. rule ls (face / u)) in-units))
-      ∙ some_shares rule u lendable face (omega (arith, ap sum in-units))
+  pub some_exact : (shares : List ℕ) → length shares ≡ length lendable → Shared limits (face / u) shares → ExactlyMade u lendable face (Some (times_unit u shares))
+  unfolding ExactlyMade
+  some_exact shares count law some whole =
+      makes u lendable shares face whole count (subst (λ ls. Shared ls (face / u) shares) e law)
 
-  pub loan_makes : face % u ≡ 0 → length shares ≡ length lendable → Shared limits (face / u) shares → Makes lendable face out
-  loan_makes whole count law =
-      rw times (makes u lendable shares face whole count (subst (λ ls. Shared ls (face / u) shares) in-units law))
+  pub face_below : (n : ℕ) (shares : List ℕ) → Shared limits (face / u) shares → ((k : ℕ) → get_or lendable k 0 < n) → (k : ℕ) → get_or shares k 0 * u < n
+  face_below n shares law small k =
+      let le : get_or shares k 0 ≤ get_or (in_units u lendable) k 0 = omega (arith, law.within k, ap (λ ls. get_or ls k 0) e) in
+      omega (arith, share_fits u shares lendable k le, small k)
 
-pub share_below : (u n : ℕ) (lendable limits shares : List ℕ) → limits ≡ in_units u lendable → ((k : ℕ) → get_or lendable k 0 < n) → ((k : ℕ) → get_or shares k 0 ≤ get_or limits k 0) → (k : ℕ) → get_or shares k 0 * u < n
-share_below u n lendable limits shares e small h k =
-    let le : get_or shares k 0 ≤ get_or (in_units u lendable) k 0 = omega (arith, h k, ap (λ ls. get_or ls k 0) e) in
-    omega (arith, share_fits u shares lendable k le, small k)
+-- what callers need of it
+pub face_made : (u : ℕ) (lendable shares : List ℕ) (face : ℕ) → ExactlyMade u lendable face (Some shares) → 0 < u → face % u ≡ 0 → sum shares ≡ face
+unfolding ExactlyMade
+face_made u lendable shares face e some whole = (e some whole).made

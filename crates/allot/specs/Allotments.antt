@@ -27,6 +27,6 @@ abbrev pub NoneMakes : ℕ → List ℕ → ℕ → Type 0
 NoneMakes unit lendable face = (shares : List ℕ) → Makes lendable face (times_unit unit shares) → ⊥
 
 -- of a face in whole units: the shares make it, and there are none only where none could
-abbrev pub ExactlyMade : ℕ → List ℕ → ℕ → Option (List ℕ) → Type 0
+unfoldable pub ExactlyMade : ℕ → List ℕ → ℕ → Option (List ℕ) → Type 0
 ExactlyMade unit lendable face r =
     0 < unit → face % unit ≡ 0 → MatchOption r (NoneMakes unit lendable face) (λ shares. Makes lendable face shares)

@@ -2,13 +2,14 @@
 
 #![tactic(auto)]
 
-ghost use Rattle.std.specs.Prelude.{◌≡◌, ℕ, ◌*◌, ◌/◌, ◌%◌, ◌^◌, ◌<◌, slice_index};
+ghost use Rattle.std.specs.Prelude.{◌≡◌, ℕ, ◌*◌, ◌/◌, ◌^◌, ◌<◌, slice_index};
 ghost use Rattle.allot.specs.Allotments.{in_units, times_unit, allotted, ExactlyMade};
 
 use share::{SharingRule, shared};
 use sums::total::{Every, total};
 
 /// The shares that make the face; none exactly where no shares in whole units within the lendable faces make it.
+#[tactic(auto, using(crate::proofs::Whole::none_meant, crate::proofs::Whole::none_exact, crate::proofs::Whole::some_exact, crate::proofs::Whole::face_below))]
 pub fn allot<R: SharingRule>(
     rule: &R,
     unit: u32,
@@ -18,21 +19,9 @@ pub fn allot<R: SharingRule>(
     ensures meant { result ≡ allotted (R.meaning rule.now) unit lendable.now face }
     ensures exact { ExactlyMade unit lendable.now face result }
 {
-    by_rule(rule, unit, lendable, face)
-}
-
-fn by_rule<R: SharingRule>(
-    rule: &R,
-    unit: u32,
-    lendable: &[u64; 32],
-    face: u32,
-) -> Option<[u64; 32]>
-    ensures meant { result ≡ allotted (R.meaning rule.now) unit lendable.now face }
-    ensures exact { ExactlyMade unit lendable.now face result }
-{
     let limits = in_units(unit, lendable);
-    let want = units(face as u64, unit);
-    if (want as u128) > total(&limits, &Every) {
+    let want = units(u64::from(face), unit);
+    if u128::from(want) > total(&limits, &Every) {
         return None;
     }
     Some(times_unit(unit, &shared(rule, &limits, want)))
@@ -45,18 +34,14 @@ fn units(amount: u64, unit: u32) -> u64
     if unit == 0 {
         return 0;
     }
-    amount / unit as u64
+    amount / u64::from(unit)
 }
 
 // The lendable faces in whole units.
 fn in_units(unit: u32, amounts: &[u64; 32]) -> [u64; 32]
     ensures { result ≡ in_units unit amounts.now }
 {
-    let mut limits = [0; 32];
-    for (i, &amount) in amounts.iter().enumerate() {
-        limits[i] = units(amount, unit);
-    }
-    limits
+    amounts.map(|amount| units(amount, unit))
 }
 
 // Shares in units as faces.
@@ -64,11 +49,7 @@ fn times_unit(unit: u32, shares: &[u64; 32]) -> [u64; 32]
     requires { (k : ℕ) → slice_index shares.now k * unit < 2 ^ 64 }
     ensures { result ≡ times_unit unit shares.now }
 {
-    let mut faces = [0; 32];
-    for (i, &share) in shares.iter().enumerate() {
-        faces[i] = share * unit as u64;
-    }
-    faces
+    shares.map(|share| share * u64::from(unit))
 }
 
 #[cfg(test)]

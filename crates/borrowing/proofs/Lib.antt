@@ -1,4 +1,3 @@
 pub mod Moved
-pub mod Fitting
 pub mod Made
 pub mod Lent

@@ -1,13 +1,9 @@
 -- The moves of a loan, one after another.
 use Rattle.std.proofs.Common.{◌≡◌, ℕ, ◌+◌, ◌<◌, ◌≤◌, List, [], ◌∷◌, ◌++◌, length, get_or, drop, sym, refl, ap, ◌∙◌}
 use Rattle.std.proofs.lemmas.List.{at_drop_more, at_drop_all}
-use Rattle.book.specs.Places.{available}
-use Rattle.moves.specs.Columns.{available_column}
-use Rattle.moves.specs.Many.{Move, after_move, after_moves, gather_moves}
-use Rattle.moves.specs.declared.column.Column.{Column}
+use Rattle.moves.specs.Many.{Move, after_move, after_moves}
 use Rattle.pledge.specs.declared.rows.PledgeRow.{PledgeRow}
-use Rattle.loan.specs.declared.kept.LoanRow.{LoanRow}
-use Rattle.borrowing.specs.Borrows.{row_move, row_moves, loan_moves}
+use Rattle.borrowing.specs.Borrows.{row_move, row_moves}
 
 -- moves after moves
 pub after_both : (most : ℕ) (xs : List ℕ) (ms ns : List Move) → after_moves most xs (ms ++ ns) ≡ after_moves most (after_moves most xs ms) ns
@@ -23,9 +19,3 @@ module _ (most borrower : ℕ) (rows : List PledgeRow) (all xs : List ℕ) (i : 
 
   pub rows_moved : length rows ≤ i → xs ≡ all
   rows_moved h = sym (inv ∙ at_drop_all (λ rest. after_moves most xs (row_moves borrower rest)) rows i h)
-
--- the rows are pledged, and then the shares are gathered
-pub loan_moved : (most : ℕ) (l : LoanRow) (xs ys zs shares : List ℕ) (column : Column) (target : ℕ) → ys ≡ after_moves most xs (row_moves l.borrower l.pledge.rows) → target ≡ available l.borrower l.bond → column ≡ available_column l.bond → shares ≡ l.shares → zs ≡ after_moves most ys (gather_moves column target 0 shares) → zs ≡ after_moves most xs (loan_moves l)
-loan_moved most l xs ys zs shares column target rows t c s e =
-    let both = after_both most xs (row_moves l.borrower l.pledge.rows) (gather_moves (available_column l.bond) (available l.borrower l.bond) 0 l.shares) in
-    e ∙ rw (t, c, s, rows) (sym both)

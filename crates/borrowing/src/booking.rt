@@ -15,9 +15,10 @@ fn pledge_row<B: Book>(bonds: &mut B, borrower: u8, row: PledgeRow)
 {
     let source = available_place(borrower, row.bond);
     let target = pledged_place(borrower, row.bond);
-    let _ = bonds.shift(source, target, row.face as u64);
+    let _ = bonds.shift(source, target, u64::from(row.face));
 }
 
+#[tactic(auto, using(crate::proofs::Moved::row_moved, crate::proofs::Moved::rows_moved))]
 fn pledge_rows<B: Book>(bonds: &mut B, borrower: u8, rows: &[PledgeRow; 4])
     ensures { B.Book.amounts bonds.new ≡ after_moves B.Book.most (B.Book.amounts bonds.old) (row_moves borrower rows.now) }
 {
@@ -27,15 +28,11 @@ fn pledge_rows<B: Book>(bonds: &mut B, borrower: u8, rows: &[PledgeRow; 4])
 }
 
 // Pledges the rows of a loan, and moves each share from its lender to the borrower.
+#[tactic(auto, using(crate::proofs::Moved::after_both))]
 pub(crate) fn move_bonds<B: Book>(bonds: &mut B, loan: &Loan)
     ensures { B.Book.amounts bonds.new ≡ after_moves B.Book.most (B.Book.amounts bonds.old) (loan_moves (row_of loan.now)) }
 {
     pledge_rows(bonds, loan.borrower, &loan.pledge.rows);
     let target = available_place(loan.borrower, loan.bond);
-    gather(
-        bonds,
-        Column::available(loan.bond),
-        target,
-        &loan.shares.by(),
-    );
+    gather(bonds, Column::available(loan.bond), target, &loan.shares.by);
 }

@@ -1,17 +1,16 @@
 //! The call borrow. `day` is the number of the day that the caller holds.
-ghost use Rattle.std.specs.Prelude.{◌≡◌, length};
+ghost use Rattle.std.specs.Prelude.{◌≡◌};
 ghost use Rattle.terms.specs.Table.{first_of, answered};
-ghost use Rattle.terms.specs.Refusals.{Settles};
 ghost use Rattle.book.specs.Ledgers.{ledger};
 ghost use Rattle.records.specs.Kept.{kept_of};
-ghost use Rattle.register.specs.Loans.{loans_of};
-ghost use Rattle.loan.specs.Kept.{row_of};
-ghost use Rattle.borrowing.specs.Borrows.{order_rules, borrow_rules, loan_of, lent};
-ghost use Rattle.borrowing.specs.Deals.{map_ok};
+ghost use Rattle.lending.specs.View.{viewed};
+ghost use Rattle.loan.specs.Kept.{row_in};
+ghost use Rattle.borrowing.specs.Borrows.{order_rules, loan_of, Borrowed};
 
 use crate::booking::move_bonds;
 use crate::deal::check_deal;
 use book::Book;
+use lending::View;
 use loan::Loan;
 use orders::{check_rows, check_terms};
 use records::Records;
@@ -28,12 +27,14 @@ pub fn borrow<B: Book, S: SharingRule>(
     day: u32,
     order: &Order,
 ) -> Result<u64, Refusal>
-    ensures { Settles (first_of (borrow_rules (ledger B.Book bonds.old) (kept_of records.now) (loans_of loans.old) day order.now)) (length (loans_of loans.old).rows) (B.Book.amounts bonds.old, loans_of loans.old) (lent (ledger B.Book bonds.old) (loans_of loans.old) (loan_of (S.SharingRule.meaning rule.now) (ledger B.Book bonds.old) (kept_of records.now) (loans_of loans.old) order.now)) result (B.Book.amounts bonds.new, loans_of loans.new) }
+    ensures { Borrowed (S.SharingRule.meaning rule.now) (viewed (ledger B.Book bonds.old) (kept_of records.now) loans.old) day order.now result (B.Book.amounts bonds.new, loans.new) }
 {
     borrow_on(bonds, rule, records, loans, day, order)
 }
 
 // Everything is checked before anything is booked, also that a loan row is unused, so the loan is always added.
+// Not joined with `borrow`: the arm that `?` leaves needs a proof file, and a bug in the public call is to be
+// refused at its own line.
 fn borrow_on<B: Book, S: SharingRule>(
     bonds: &mut B,
     rule: &S,
@@ -42,27 +43,30 @@ fn borrow_on<B: Book, S: SharingRule>(
     day: u32,
     order: &Order,
 ) -> Result<u64, Refusal>
-    ensures { Settles (first_of (borrow_rules (ledger B.Book bonds.old) (kept_of records.now) (loans_of loans.old) day order.now)) (length (loans_of loans.old).rows) (B.Book.amounts bonds.old, loans_of loans.old) (lent (ledger B.Book bonds.old) (loans_of loans.old) (loan_of (S.SharingRule.meaning rule.now) (ledger B.Book bonds.old) (kept_of records.now) (loans_of loans.old) order.now)) result (B.Book.amounts bonds.new, loans_of loans.new) }
+    ensures { Borrowed (S.SharingRule.meaning rule.now) (viewed (ledger B.Book bonds.old) (kept_of records.now) loans.old) day order.now result (B.Book.amounts bonds.new, loans.new) }
 {
     if records.is_not_open(day) {
         return Err(Layer::Order.refuse(Cause::Time, 0));
     }
-    let loan = check_order(bonds, rule, records, loans, order)?;
+    let view = View {
+        bonds: &*bonds,
+        records,
+        loans: &*loans,
+    };
+    let loan = check_order(&view, rule, order)?;
     move_bonds(bonds, &loan);
     loans.add(loan).ok_or(Layer::Order.refuse(Cause::Loans, 0))
 }
 
 // The loan that an order makes, or the first refusal.
 fn check_order<B: Book, S: SharingRule>(
-    bonds: &B,
+    view: &View<B>,
     rule: &S,
-    records: &Records,
-    loans: &Register,
     order: &Order,
 ) -> Result<Loan, Refusal>
-    ensures { map_ok row_of result ≡ answered (first_of (order_rules (ledger B.Book bonds.now) (kept_of records.now) (loans_of loans.now) order.now)) (loan_of (S.SharingRule.meaning rule.now) (ledger B.Book bonds.now) (kept_of records.now) (loans_of loans.now) order.now) }
+    ensures { row_in result ≡ answered (first_of (order_rules view.now order.now)) (loan_of (S.SharingRule.meaning rule.now) view.now order.now) }
 {
-    let terms = check_terms(records, order)?;
-    let pledge = check_rows(bonds, records, &terms, order)?;
-    check_deal(bonds, rule, records, loans, &terms, &pledge)
+    let terms = check_terms(view.records, order)?;
+    let pledge = check_rows(view.bonds, view.records, &terms, order)?;
+    check_deal(view, rule, &terms, &pledge)
 }

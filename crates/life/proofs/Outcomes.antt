@@ -11,23 +11,17 @@ use Rattle.pool.specs.declared.days.Day.{Day}
 use Rattle.pool.specs.declared.days.Day.TheVariants as held
 use Rattle.pool.specs.declared.days.OpenDay.{OpenDay}
 use Rattle.life.specs.Steps.{outcome_of, by_verdict, within_day, made, outcome_made, number_of, takes, day_by, stepped, after_step}
-use Rattle.life.specs.declared.steps.Outcome.{Outcome}
-use Rattle.life.specs.declared.steps.Outcome.TheVariants.{Refused, NotMade}
+use Rattle.life.specs.declared.steps.CallError.{CallError}
+use Rattle.life.specs.declared.steps.CallError.TheVariants.{Refused, NotMade}
 use Rattle.life.specs.declared.steps.Stepped.{Stepped}
 
-abbrev at_day : Day → Outcome → Stepped
+abbrev at_day : Day → Result Unit CallError → Stepped
 at_day d o = record { day = d; outcome = o }
 
-outcome_answered : (v : Option Refusal) → outcome_of (answered v tt) ≡ by_verdict v
+-- what came of a call that was answered by a verdict
+pub outcome_answered : (v : Option Refusal) → outcome_of (answered v tt) ≡ by_verdict v
 outcome_answered None = refl
 outcome_answered (Some r) = refl
-
--- a call within the day that was obeyed
-pub made_by : (s t : State) (day : ℕ) (call this : Call) (r : Result Unit Refusal) (o : Outcome) → call ≡ this → within_day this ≡ true → Obeys s day this tt r t → o ≡ outcome_of r → (o ≡ outcome_made s day call) × (t ≡ made s day call)
-made_by s t day call this r o same w m e = (
-  e ∙ (ap outcome_of m.answer ∙ (outcome_answered (verdict s day this) ∙ (ap (λ (b : Bool). cond b (by_verdict (verdict s day this)) NotMade) (sym w) ∙ ap (outcome_made s day) (sym same)))),
-  m.after ∙ (ap (λ (b : Bool). cond b (next s day this) s) (sym w) ∙ ap (made s day) (sym same)),
-)
 
 -- the refusal that came back with its day
 pub was_handed : {D E : Type 0} (v : Option Refusal) (old : D) (new : E) (x : Refusal × D) → Err x ≡ handed v old new → (v ≡ Some x.0) × (x.1 ≡ old)
@@ -35,9 +29,9 @@ was_handed None old new x e = let z : ◌≡◌ {A = ℕ} 0 1 = cc in absurd (om
 was_handed (Some r) old new x e = (cc, cc)
 
 -- a refused call that took the day in hand
-pub step_refused : (s t : State) (day : Day) (call this : Call) (r : Refusal) → call ≡ this → takes day this ≡ true → verdict s (number_of day) this ≡ Some r → t ≡ next s (number_of day) this → (at_day day (Refused r) ≡ stepped s day call) × (t ≡ after_step s day call)
+pub step_refused : (s t : State) (day : Day) (call this : Call) (r : Refusal) → call ≡ this → takes day this ≡ true → verdict s (number_of day) this ≡ Some r → t ≡ next s (number_of day) this → (at_day day (Err (Refused r)) ≡ stepped s day call) × (t ≡ after_step s day call)
 step_refused s t day call this r same k v f =
-    let e : stepped s day this ≡ at_day day (Refused r) = rw (k, v) in
+    let e : stepped s day this ≡ at_day day (Err (Refused r)) = rw (k, v) in
     (sym (ap (stepped s day) same ∙ e), f ∙ (ap (λ (b : Bool). cond b (next s (number_of day) this) s) (sym k) ∙ ap (after_step s day) (sym same)))
 
 day_by_same : (v : Option Refusal) (day : Day) → day_by v day day ≡ day
@@ -45,10 +39,10 @@ day_by_same None day = refl
 day_by_same (Some r) day = refl
 
 -- any call but a shut, with an open day in hand
-pub step_made : (s t : State) (d : OpenDay) (call : Call) (o : Outcome) → (call ≡ Shut → ⊥) → o ≡ outcome_made s d.number call → t ≡ made s d.number call → (at_day (held.Open d) o ≡ stepped s (held.Open d) call) × (t ≡ after_step s (held.Open d) call)
+pub step_made : (s t : State) (d : OpenDay) (call : Call) (o : Result Unit CallError) → (call ≡ Shut → ⊥) → o ≡ outcome_made s d.number call → t ≡ made s d.number call → (at_day (held.Open d) o ≡ stepped s (held.Open d) call) × (t ≡ after_step s (held.Open d) call)
 step_made s t d call o other e f = by_call call other e f
   where
-    same_day : (c : Call) (p : Outcome) → p ≡ by_verdict (verdict s d.number c) → at_day (held.Open d) p ≡ at_day (day_by (verdict s d.number c) (held.Open d) (held.Open d)) (by_verdict (verdict s d.number c))
+    same_day : (c : Call) (p : Result Unit CallError) → p ≡ by_verdict (verdict s d.number c) → at_day (held.Open d) p ≡ at_day (day_by (verdict s d.number c) (held.Open d) (held.Open d)) (by_verdict (verdict s d.number c))
     same_day c p q = rw (day_by_same (verdict s d.number c) (held.Open d)) (ap (at_day (held.Open d)) q)
 
     by_call : (c : Call) → (c ≡ Shut → ⊥) → o ≡ outcome_made s d.number c → t ≡ made s d.number c → (at_day (held.Open d) o ≡ stepped s (held.Open d) c) × (t ≡ after_step s (held.Open d) c)

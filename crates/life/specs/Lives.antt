@@ -11,6 +11,7 @@ use Rattle.pool.specs.Life.{History, began, called, LeadsTo}
 use Rattle.pool.specs.Law.{Law}
 use Rattle.pool.specs.declared.days.Day.{Day}
 use Rattle.pool.specs.declared.days.Day.TheVariants as held
+use Rattle.pool.specs.declared.opening.Parts.{Parts}
 use Rattle.pool.specs.declared.opening.Unopened.{Unopened}
 use Rattle.life.specs.declared.whole.Lived.{Lived}
 
@@ -47,12 +48,11 @@ told h s (call ∷ calls) =
 
 -- what a whole life promises: a refused opening hands everything back; else the pool is where the calls lead,
 -- the caller holds its day, the history of these calls leads there, and the law holds
-abbrev pub Lives : {X Y Z : Type 0} → BookMeaning X → BookMeaning Y → RuleMeaning Z → X → Y → Z → Opening → List Call → Result (Lived X Y Z) (Unopened X Y Z) → Type 0
-Lives b c r x y z o calls (Ok l) =
+abbrev pub Lives : {X Y Z : Type 0} → BookMeaning X → BookMeaning Y → RuleMeaning Z → Parts X Y Z → Opening → List Call → Result (Lived X Y Z) (Unopened X Y Z) → Type 0
+Lives b c r parts o calls (Ok l) =
     (opening_verdict o ≡ None)
     × (state_of b c r l.pool ≡ ended (opening_state o) calls)
     × HoldsDay (state_of b c r l.pool) l.day
     × LeadsTo (told (began o) (opening_state o) calls) (state_of b c r l.pool)
     × Law (told (began o) (opening_state o) calls) (state_of b c r l.pool)
-Lives b c r x y z o calls (Err u) =
-    (opening_verdict o ≡ Some u.refusal) × (u.bonds ≡ x) × (u.cash ≡ y) × (u.rule ≡ z)
+Lives b c r parts o calls (Err u) = (opening_verdict o ≡ Some u.refusal) × (u.parts ≡ parts)

@@ -1,5 +1,6 @@
 -- One call of a life. With an open day in hand every call but next is made, with a shut day next alone.
-use Rattle.std.specs.Prelude.{ℕ, Bool, true, false, cond, Some, None, Ok, Err, Option, Result}
+use Rattle.std.specs.Prelude.{ℕ, Bool, true, false, cond, List, ◌++◌, Some, None, Ok, Err, Option, Result, codes}
+use Rattle.terms.specs.Words.{refusal_text}
 use Rattle.terms.specs.declared.refusal.Refusal.{Refusal}
 use Rattle.terms.specs.declared.call.Call.{Call}
 use Rattle.terms.specs.declared.call.Call.TheVariants.{Clock, Quota, Mode, Price, Deliver, Remit, Shut, Next}
@@ -7,18 +8,24 @@ use Rattle.pool.specs.State.{State}
 use Rattle.pool.specs.Rules.{verdict, next}
 use Rattle.pool.specs.declared.days.Day.{Day}
 use Rattle.pool.specs.declared.days.Day.TheVariants as held
-use Rattle.life.specs.declared.steps.Outcome.{Outcome}
-use Rattle.life.specs.declared.steps.Outcome.TheVariants.{Accepted, Refused, NotMade}
+use Rattle.life.specs.declared.steps.CallError.{CallError}
+use Rattle.life.specs.declared.steps.CallError.TheVariants.{Refused, NotMade}
 use Rattle.life.specs.declared.steps.Stepped.{Stepped}
 
-abbrev pub outcome_of : Result Unit Refusal → Outcome
-outcome_of (Ok x) = Accepted
-outcome_of (Err r) = Refused r
+-- why a call did nothing, as it is told
+abbrev pub error_text : CallError → List ℕ
+error_text (Refused r) = codes "refused " ++ refusal_text r
+error_text NotMade = codes "not made"
+
+-- what came of a call, by its answer
+abbrev pub outcome_of : Result Unit Refusal → Result Unit CallError
+outcome_of (Ok x) = Ok tt
+outcome_of (Err r) = Err (Refused r)
 
 -- the outcome of a call under a verdict
-abbrev pub by_verdict : Option Refusal → Outcome
-by_verdict None = Accepted
-by_verdict (Some r) = Refused r
+abbrev pub by_verdict : Option Refusal → Result Unit CallError
+by_verdict None = Ok tt
+by_verdict (Some r) = Err (Refused r)
 
 -- a call that neither ends nor begins a day
 abbrev pub within_day : Call → Bool
@@ -35,8 +42,8 @@ within_day (Next number r001) = false
 abbrev pub made : State → ℕ → Call → State
 made s day call = cond (within_day call) (next s day call) s
 
-abbrev pub outcome_made : State → ℕ → Call → Outcome
-outcome_made s day call = cond (within_day call) (by_verdict (verdict s day call)) NotMade
+abbrev pub outcome_made : State → ℕ → Call → Result Unit CallError
+outcome_made s day call = cond (within_day call) (by_verdict (verdict s day call)) (Err NotMade)
 
 -- the number of the day in hand
 abbrev pub number_of : Day → ℕ
@@ -82,7 +89,7 @@ abbrev pub stepped : State → Day → Call → Stepped
 stepped s day call =
     cond (takes day call)
     (record { day = day_by (verdict s (number_of day) call) day (day_after day call); outcome = by_verdict (verdict s (number_of day) call) })
-    (record { day = day; outcome = NotMade })
+    (record { day = day; outcome = Err NotMade })
 
 -- the pool after it
 abbrev pub after_step : State → Day → Call → State

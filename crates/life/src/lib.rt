@@ -5,5 +5,5 @@
 mod steps;
 mod whole;
 
-pub use steps::{Outcome, Stepped, step};
+pub use steps::{CallError, Stepped, step};
 pub use whole::{Lived, live};

@@ -6,7 +6,7 @@ ghost use Rattle.life.specs.Lives.{HoldsDay, ended, Lives};
 
 use crate::steps::step;
 use book::Book;
-use pool::{Day, OpenDay, Pool, Unopened};
+use pool::{Day, OpenDay, Parts, Pool, Unopened};
 use records::Figures;
 use share::SharingRule;
 use terms::Call;
@@ -21,33 +21,25 @@ pub struct Lived<B: Book, C: Book, S: SharingRule> {
 /// Opens a pool and makes the calls one after another. After an accepted shut only a next comes, and a next comes only then;
 /// a call that does not come is left out.
 pub fn live<B: Book, C: Book, S: SharingRule>(
-    bonds: B,
-    cash: C,
-    rule: S,
+    parts: Parts<B, C, S>,
     figures: &Figures,
     calls: &[Call],
 ) -> Result<Lived<B, C, S>, Unopened<B, C, S>>
-    ensures { Lives B.Book C.Book S.SharingRule bonds cash rule (opening_of B.Book C.Book S.SharingRule bonds cash rule figures.now) calls.now result }
+    ensures { Lives B.Book C.Book S.SharingRule parts (opening_of B.Book C.Book S.SharingRule parts figures.now) calls.now result }
 {
-    live_on(bonds, cash, rule, figures, calls)
+    live_on(parts, figures, calls)
 }
 
 fn live_on<B: Book, C: Book, S: SharingRule>(
-    bonds: B,
-    cash: C,
-    rule: S,
+    parts: Parts<B, C, S>,
     figures: &Figures,
     calls: &[Call],
 ) -> Result<Lived<B, C, S>, Unopened<B, C, S>>
-    ensures { Lives B.Book C.Book S.SharingRule bonds cash rule (opening_of B.Book C.Book S.SharingRule bonds cash rule figures.now) calls.now result }
+    ensures { Lives B.Book C.Book S.SharingRule parts (opening_of B.Book C.Book S.SharingRule parts figures.now) calls.now result }
 {
-    match Pool::open(bonds, cash, rule, figures) {
-        Err(unopened) => Err(unopened),
-        Ok((mut pool, first)) => {
-            let day = run(&mut pool, first, calls);
-            Ok(Lived { pool, day })
-        }
-    }
+    let (mut pool, first) = Pool::open(parts, figures)?;
+    let day = run(&mut pool, first, calls);
+    Ok(Lived { pool, day })
 }
 
 fn run<B: Book, C: Book, S: SharingRule>(

@@ -1,9 +1,10 @@
 -- The row that a loan is kept as.
-use Rattle.std.specs.Prelude.{ℕ, Bool, not, ◌&&◌, ◌||◌, sum, ◌==◌, nat_le, nat_lt}
+use Rattle.std.specs.Prelude.{◌≡◌, ℕ, Bool, cond, not, ◌&&◌, ◌||◌, List, Ok, Err, sum, Result, codes, ◌==◌, nat_le, nat_lt}
 use Rattle.loan.specs.Stages.{is_out, is_unfunded, lapsed}
 use Rattle.loan.specs.declared.kept.Dues.{Dues}
 use Rattle.loan.specs.declared.kept.LoanRow.{LoanRow}
 use Rattle.loan.specs.declared.whole.Loan.{Loan}
+use Rattle.loan.specs.declared.whole.UnsoundRow.{UnsoundRow}
 
 abbrev pub row_of : Loan → LoanRow
 row_of loan = record {
@@ -19,6 +20,18 @@ row_of loan = record {
 -- the shares total the face
 abbrev pub is_sound : LoanRow → Bool
 is_sound row = sum row.shares == row.face
+
+-- the row of the loan in an answer
+abbrev pub row_in : {E : Type 0} → Result Loan E → Result LoanRow E
+row_in (Ok loan) = Ok (row_of loan)
+row_in (Err e) = Err e
+
+-- what a kept row reads as: a loan that is kept as this row, exactly where the row is sound
+abbrev pub RowRead : LoanRow → Result Loan UnsoundRow → Type 0
+RowRead row r = row_in r ≡ cond (is_sound row) (Ok row) (Err (record {}))
+
+abbrev pub unsound_text : List ℕ
+unsound_text = codes "the shares do not total the face"
 
 -- the fee is paid, no interest is owed, and the loan is back or delivered
 abbrev pub is_closed : LoanRow → Bool

@@ -7,7 +7,7 @@ use crate::stage::Stage;
 use pledge::Pledge;
 
 /// What the borrower owes and by when.
-#[derive(Clone, Copy)]
+#[derive(Clone, Copy, Debug, PartialEq, Eq)]
 pub struct Dues {
     /// Millionths a year.
     pub rate: u16,
@@ -23,7 +23,7 @@ pub struct Dues {
 }
 
 /// A loan as it is kept.
-#[derive(Clone, Copy)]
+#[derive(Clone, Copy, Debug, PartialEq, Eq)]
 pub struct LoanRow {
     pub borrower: u8,
     pub bond: u8,

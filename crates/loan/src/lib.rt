@@ -14,4 +14,4 @@ pub use question::Awaited;
 pub use shares::Shares;
 pub use stage::{Matter, Stage};
 pub use totals::{LentBy, OutOf, RowsOut, UnclosedOf};
-pub use whole::Loan;
+pub use whole::{Loan, UnsoundRow};

@@ -6,7 +6,7 @@ ghost use Rattle.loan.specs.Kept.{row_of};
 use crate::whole::Loan;
 
 /// Who is awaited: the lowest account, and how many in all.
-#[derive(Clone, Copy)]
+#[derive(Clone, Copy, Debug, Default, PartialEq, Eq)]
 pub struct Awaited {
     pub lowest: Option<u8>,
     pub many: u32,
@@ -18,27 +18,21 @@ impl Loan {
         ensures { result ≡ asked (row_of self.now) }
     {
         match self.stage.answered() {
-            Some(answered) => left_of(&self.shares.by(), answered),
-            None => Awaited {
-                lowest: None,
-                many: 0,
-            },
+            Some(answered) => left_of(&self.shares.by, answered),
+            None => Awaited::default(),
         }
     }
 }
 
 // Of the lenders, those that have not answered.
+#[tactic(auto, using(crate::proofs::Digits::left_many, crate::proofs::Digits::left_some, crate::proofs::Digits::left_none))]
 fn left_of(by: &[u64; 32], answered: u32) -> Awaited
     ensures { result ≡ awaited_of by.now answered }
 {
     let left = lenders(by) & !answered;
-    let many = left.count_ones();
-    if left == 0 {
-        return Awaited { lowest: None, many };
-    }
     Awaited {
-        lowest: Some(left.trailing_zeros() as u8),
-        many,
+        lowest: (left != 0).then(|| left.trailing_zeros() as u8),
+        many: left.count_ones(),
     }
 }
 
@@ -47,8 +41,8 @@ fn lenders(by: &[u64; 32]) -> u32
     ensures { (a : ℕ) → a < 32 → holds result a ≡ nat_lt 0 (slice_index by.now a) }
 {
     let mut mask: u32 = 0;
-    for a in 0..32 {
-        if by[a] > 0 {
+    for (a, &share) in by.iter().enumerate() {
+        if share > 0 {
             mask |= 1 << a;
         }
     }
@@ -90,13 +84,13 @@ mod tests {
                 answered: 1 << 3,
             }),
         };
-        let Some(loan) = Loan::from_row(row) else {
-            assert!(rt; false);
-            return Ok(());
+        let loan = Loan::try_from(row)?;
+        let awaited = Awaited {
+            lowest: Some(5),
+            many: 1,
         };
-        let awaited = loan.question();
-        assert!(rt; awaited.many == 1 && awaited.lowest.unwrap_or(0) == 5);
-        assert!(rt; loan.to_row().at_shut(11).dues.late);
+        assert_eq!(rt; loan.question(), awaited);
+        assert!(rt; LoanRow::from(loan).at_shut(11).dues.late);
         Ok(())
     }
 }

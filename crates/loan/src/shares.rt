@@ -5,10 +5,10 @@ ghost use Rattle.std.specs.Option.{option_map};
 use sums::total::{Every, total};
 
 /// A face, and what each account has lent of it.
-#[derive(Clone, Copy)]
+#[derive(Clone, Copy, Debug, PartialEq, Eq)]
 pub struct Shares {
-    face: u32,
-    by: [u64; 32],
+    pub face: u32,
+    pub by: [u64; 32],
     ghost whole: { sum by ≡ face },
 }
 
@@ -22,19 +22,5 @@ impl Shares {
         } else {
             None
         }
-    }
-
-    /// The face that the shares total.
-    pub fn face(&self) -> u32
-        ensures { result ≡ self.now.face }
-    {
-        self.face
-    }
-
-    /// What each account has lent.
-    pub fn by(&self) -> [u64; 32]
-        ensures { result ≡ self.now.by }
-    {
-        self.by
     }
 }

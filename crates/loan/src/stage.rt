@@ -3,7 +3,7 @@ ghost use Rattle.std.specs.Prelude.{◌≡◌};
 ghost use Rattle.loan.specs.Stages.{is_out, is_unfunded, answered_in, lapsed};
 
 /// What is asked of the lenders. `answered` has one bit for each account.
-#[derive(Clone, Copy)]
+#[derive(Clone, Copy, Debug, PartialEq, Eq)]
 pub enum Matter {
     /// Nothing is asked.
     Quiet,
@@ -16,7 +16,7 @@ pub enum Matter {
 }
 
 /// Where the lent bond is: still out, given back, or delivered in cash.
-#[derive(Clone, Copy)]
+#[derive(Clone, Copy, Debug, PartialEq, Eq)]
 pub enum Stage {
     Out(Matter),
     Back,
@@ -50,9 +50,11 @@ impl Stage {
         ensures { result ≡ answered_in self }
     {
         match self {
-            Stage::Out(Matter::Roll { answered, .. }) => Some(answered),
-            Stage::Out(Matter::Cash { answered, .. }) => Some(answered),
-            Stage::Out(Matter::Funded { answered, .. }) => Some(answered),
+            Stage::Out(
+                Matter::Roll { answered, .. }
+                | Matter::Cash { answered, .. }
+                | Matter::Funded { answered, .. },
+            ) => Some(answered),
             Stage::Out(Matter::Quiet) | Stage::Back | Stage::Delivered => None,
         }
     }
@@ -62,9 +64,7 @@ impl Stage {
         ensures { result ≡ lapsed self }
     {
         match self {
-            Stage::Out(Matter::Roll { .. }) | Stage::Out(Matter::Cash { .. }) => Stage::Out(
-                Matter::Quiet,
-            ),
+            Stage::Out(Matter::Roll { .. } | Matter::Cash { .. }) => Stage::Out(Matter::Quiet),
             other => other,
         }
     }

@@ -18,10 +18,8 @@ impl AmountFor<LentBy> for LoanRow {
         if !self.is_out() || self.bond != asked.bond {
             return 0;
         }
-        match self.shares.get(asked.account as usize) {
-            Some(share) => *share,
-            None => 0,
-        }
+        let account = usize::from(asked.account);
+        self.shares.get(account).copied().unwrap_or(0)
     }
 }
 
@@ -54,11 +52,7 @@ impl AmountFor<UnclosedOf> for LoanRow {
     ghost amount_for = { λ asked row. unclosed_of asked.borrower row };
 
     fn amount_for(&self, asked: &UnclosedOf) -> u64 {
-        if self.borrower == asked.borrower && !self.is_closed() {
-            1
-        } else {
-            0
-        }
+        u64::from(self.borrower == asked.borrower && !self.is_closed())
     }
 }
 

@@ -1,15 +1,16 @@
 //! A loan whose shares total its face: read from a kept row by a check, and kept as a row again.
-ghost use Rattle.std.specs.Prelude.{◌≡◌, if◌then◌else◌, Some, None};
-ghost use Rattle.std.specs.Option.{option_map};
-ghost use Rattle.loan.specs.Kept.{row_of, is_sound};
+ghost use Rattle.std.specs.Prelude.{◌≡◌, Some};
+ghost use Rattle.loan.specs.Kept.{row_of, RowRead, unsound_text};
 
 use crate::kept::{Dues, LoanRow};
 use crate::shares::Shares;
 use crate::stage::Stage;
 use pledge::Pledge;
+use std::error::Error;
+use std::fmt;
 
 /// One borrower's loan of one bond.
-#[derive(Clone, Copy)]
+#[derive(Clone, Copy, Debug, PartialEq, Eq)]
 pub struct Loan {
     pub borrower: u8,
     pub bond: u8,
@@ -19,13 +20,29 @@ pub struct Loan {
     pub stage: Stage,
 }
 
-impl Loan {
-    /// The loan of a kept row, exactly where the row's shares total its face.
-    pub fn from_row(row: LoanRow) -> Option<Loan>
-        ensures { option_map row_of result ≡ (if is_sound row then Some row else None) }
-    {
-        let shares = Shares::checked(row.face, row.shares)?;
-        Some(Loan {
+/// A kept row whose shares do not total its face is no loan's.
+#[derive(Clone, Copy, Debug, PartialEq, Eq)]
+pub struct UnsoundRow;
+
+impl fmt::Display for UnsoundRow {
+    ghost output = { λ _. Some unsound_text };
+
+    fn fmt<W: fmt::Write>(&self, f: &mut fmt::Formatter<W>) -> fmt::Result {
+        f.write_str("the shares do not total the face")
+    }
+}
+
+impl Error for UnsoundRow {}
+
+/// The loan of a kept row, exactly where the row's shares total its face.
+impl TryFrom<LoanRow> for Loan {
+    type Error = UnsoundRow;
+
+    ghost try_from_gives = { RowRead };
+
+    fn try_from(row: LoanRow) -> Result<Loan, UnsoundRow> {
+        let shares = Shares::checked(row.face, row.shares).ok_or(UnsoundRow)?;
+        Ok(Loan {
             borrower: row.borrower,
             bond: row.bond,
             shares,
@@ -34,19 +51,22 @@ impl Loan {
             stage: row.stage,
         })
     }
+}
 
-    /// The row that the loan is kept as.
-    pub fn to_row(self) -> LoanRow
-        ensures { result ≡ row_of self }
-    {
+/// The row that a loan is kept as.
+impl From<Loan> for LoanRow {
+    ghost from_gives = { λ loan row. row ≡ row_of loan };
+
+    fn from(loan: Loan) -> LoanRow {
+        let Shares { face, by } = loan.shares;
         LoanRow {
-            borrower: self.borrower,
-            bond: self.bond,
-            face: self.shares.face(),
-            shares: self.shares.by(),
-            pledge: self.pledge,
-            dues: self.dues,
-            stage: self.stage,
+            borrower: loan.borrower,
+            bond: loan.bond,
+            face,
+            shares: by,
+            pledge: loan.pledge,
+            dues: loan.dues,
+            stage: loan.stage,
         }
     }
 }

@@ -4,6 +4,8 @@ use Rattle.terms.specs.Table.{settled}
 use Rattle.book.specs.Moves.{refusal, moved}
 use Rattle.moves.specs.Columns.{place}
 use Rattle.moves.specs.declared.column.Column.{Column}
+use Rattle.moves.specs.declared.many.Way.{Way}
+use Rattle.moves.specs.declared.many.Way.TheVariants.{Into, OutOf}
 
 pub record Move : Type 0 where
   pub source : ℕ
@@ -28,18 +30,12 @@ abbrev pub reaches : List Move → ℕ → ℕ
 reaches [] k = 0
 reaches (m ∷ ms) k = cond (m.target == k) m.amount 0 + reaches ms k
 
--- what is taken from an account's place into the target, and what is given from the source to it
-abbrev pub taken : Column → ℕ → ℕ → ℕ → Move
-taken c target account n = record { source = place c account; target = target; amount = n }
+-- a move of n between a place of a column and the one place
+abbrev pub move_by : Way → ℕ → ℕ → Move
+move_by (Into target) place n = record { source = place; target = target; amount = n }
+move_by (OutOf source) place n = record { source = source; target = place; amount = n }
 
-abbrev pub given : ℕ → Column → ℕ → ℕ → Move
-given source c account n = record { source = source; target = place c account; amount = n }
-
--- the same of all accounts, from the one given on
-abbrev pub gather_moves : Column → ℕ → ℕ → List ℕ → List Move
-gather_moves c target account [] = []
-gather_moves c target account (n ∷ ns) = taken c target account n ∷ gather_moves c target (suc account) ns
-
-abbrev pub pay_moves : ℕ → Column → ℕ → List ℕ → List Move
-pay_moves source c account [] = []
-pay_moves source c account (n ∷ ns) = given source c account n ∷ pay_moves source c (suc account) ns
+-- the moves of all accounts, from the one given on
+abbrev pub moves_by : Column → Way → ℕ → List ℕ → List Move
+moves_by c way account [] = []
+moves_by c way account (n ∷ ns) = move_by way (place c account) n ∷ moves_by c way (suc account) ns

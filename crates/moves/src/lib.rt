@@ -6,4 +6,4 @@ mod column;
 mod many;
 
 pub use column::Column;
-pub use many::{gather, pay};
+pub use many::{Way, move_each};

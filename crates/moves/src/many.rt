@@ -1,36 +1,32 @@
 //! Many moves, one account after another.
 ghost use Rattle.std.specs.Prelude.{◌≡◌};
-ghost use Rattle.moves.specs.Many.{after_move, after_moves, taken, given, gather_moves, pay_moves};
+ghost use Rattle.moves.specs.Many.{after_move, after_moves, move_by, moves_by};
 
 use crate::column::Column;
 use book::Book;
 
-/// Moves each account's amount from its place in the column into the target.
-pub fn gather<B: Book>(book: &mut B, column: Column, target: usize, amounts: &[u64; 32])
-    ensures { B.Book.amounts book.new ≡ after_moves B.Book.LARGEST (B.Book.amounts book.old) (gather_moves column target 0 amounts.now) }
+/// Which way the amounts of a column go: into one place, or out of one place.
+#[derive(Clone, Copy, Debug, PartialEq, Eq)]
+pub enum Way {
+    Into(usize),
+    OutOf(usize),
+}
+
+/// Moves each account's amount between its place in the column and the one place.
+pub fn move_each<B: Book>(book: &mut B, column: Column, way: Way, amounts: &[u64; 32])
+    ensures { B.Book.amounts book.new ≡ after_moves B.Book.LARGEST (B.Book.amounts book.old) (moves_by column way 0 amounts.now) }
 {
     for (account, &amount) in amounts.iter().enumerate() {
-        take_one(book, column, account as u8, target, amount);
+        move_one(book, column.place(account as u8), way, amount);
     }
 }
 
-/// Moves each account's amount from the source to its place in the column.
-pub fn pay<B: Book>(book: &mut B, source: usize, column: Column, amounts: &[u64; 32])
-    ensures { B.Book.amounts book.new ≡ after_moves B.Book.LARGEST (B.Book.amounts book.old) (pay_moves source column 0 amounts.now) }
+// Moves an amount between a place of the column and the one place.
+fn move_one<B: Book>(book: &mut B, place: usize, way: Way, amount: u64)
+    ensures { B.Book.amounts book.new ≡ after_move B.Book.LARGEST (B.Book.amounts book.old) (move_by way place amount) }
 {
-    for (account, &amount) in amounts.iter().enumerate() {
-        give_one(book, source, column, account as u8, amount);
-    }
-}
-
-fn take_one<B: Book>(book: &mut B, column: Column, account: u8, target: usize, amount: u64)
-    ensures { B.Book.amounts book.new ≡ after_move B.Book.LARGEST (B.Book.amounts book.old) (taken column target account amount) }
-{
-    let _ = book.shift(column.place(account), target, amount);
-}
-
-fn give_one<B: Book>(book: &mut B, source: usize, column: Column, account: u8, amount: u64)
-    ensures { B.Book.amounts book.new ≡ after_move B.Book.LARGEST (B.Book.amounts book.old) (given source column account amount) }
-{
-    let _ = book.shift(source, column.place(account), amount);
+    let _ = match way {
+        Way::Into(target) => book.shift(place, target, amount),
+        Way::OutOf(source) => book.shift(source, place, amount),
+    };
 }

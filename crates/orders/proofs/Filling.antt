@@ -26,7 +26,7 @@ module _ (bonds : Ledger) (k : Kept) (t : Terms) (rows : List OrderRow) (all : R
       let w = was_accepted (first_of (row_rules bonds k t p i row)) (row_of row) new e in
       let next : Pledge = with_row p i (row_of row) in
       inv ∙ at_drop_more (outcome bonds k t p i) rows i d h ∙ ap (λ (x : OrderRow). outcome bonds k t p i (x ∷ rest)) (sym is)
-      ∙ ap (λ v. answered v (filled next (suc i) rest)) (first_after (row_rules bonds k t p i row) (rows_rules bonds k t next (suc i) rest) w.0)
+      ∙ ap (λ w. answered w (filled next (suc i) rest)) (first_after (row_rules bonds k t p i row) (rows_rules bonds k t next (suc i) rest) w.0)
       ∙ ap (λ (n : ℕ). outcome bonds k t next n rest) (sym (add-one i))
       ∙ ap (λ (x : PledgeRow). outcome bonds k t (with_row p i x) (i + 1) rest) (sym w.1)
 

@@ -1,2 +1,2 @@
 pub mod Accepted
-mod Filling
+pub mod Filling

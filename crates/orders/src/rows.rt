@@ -1,5 +1,6 @@
 //! The rows of an order, each judged beside the rows before it.
-ghost use Rattle.std.specs.Prelude.{◌≡◌, take};
+//! Loans have no say in this, so the book and the records are taken, and no view of a whole pool.
+ghost use Rattle.std.specs.Prelude.{◌≡◌, ◌≤◌, length, take};
 ghost use Rattle.terms.specs.Table.{first_of, answered};
 ghost use Rattle.book.specs.Ledgers.{ledger};
 ghost use Rattle.records.specs.Kept.{kept_of};
@@ -23,7 +24,7 @@ pub fn check_row<B: Book>(
     ensures { result ≡ answered (first_of (row_rules (ledger B.Book bonds.now) (kept_of records.now) terms.now pledge.now index row)) (row_of row) }
 {
     if is_no_bond(row.bond)
-        || row.bond == terms.bond as u64
+        || row.bond == u64::from(terms.bond)
         || pledge.has_bond(row.bond as u8)
         || !is_good_face(row.face, records.bonds[row.bond as usize].unit)
     {
@@ -54,26 +55,30 @@ pub fn check_rows<B: Book>(
 ) -> Result<Pledge, Refusal>
     ensures { result ≡ answered (first_of (rows_rules (ledger B.Book bonds.now) (kept_of records.now) terms.now unpledged 0 (rows_of order.now))) (pledge_of order.now) }
 {
-    pledge_of(bonds, records, terms, order.count, &order.rows)
+    pledge_of(bonds, records, terms, front(&order.rows, order.count))
 }
 
-// The pledge of the first `count` rows, or the first of them that is refused.
+// The first `count` rows, the only ones that are looked at.
+#[tactic(auto, using(std::proofs::lemmas::List::take_min))]
+fn front(rows: &[OrderRow; 4], count: u64) -> &[OrderRow]
+    ensures rows { result.now ≡ take count rows.now }
+    ensures few { length result.now ≤ 4 }
+{
+    &rows[..rows.len().min(count as usize)]
+}
+
+// The pledge of these rows, or the first of them that is refused.
 fn pledge_of<B: Book>(
     bonds: &B,
     records: &Records,
     terms: &Terms,
-    count: u64,
-    rows: &[OrderRow; 4],
+    rows: &[OrderRow],
 ) -> Result<Pledge, Refusal>
-    ensures { result ≡ outcome (ledger B.Book bonds.now) (kept_of records.now) terms.now unpledged 0 (take count rows.now) }
+    requires { length rows.now ≤ 4 }
+    ensures { result ≡ outcome (ledger B.Book bonds.now) (kept_of records.now) terms.now unpledged 0 rows.now }
 {
-    let mut pledge = Pledge {
-        rows: [PledgeRow { bond: 0, face: 0 }; 4],
-    };
+    let mut pledge = Pledge::default();
     for (i, &row) in rows.iter().enumerate() {
-        if i as u64 >= count {
-            break;
-        }
         pledge.rows[i] = check_row(bonds, records, terms, &pledge, i as u64, row)?;
     }
     Ok(pledge)

@@ -8,7 +8,7 @@ use records::{Records, is_no_bond, is_no_member};
 use terms::{Cause, Layer, Order, OrderKind, Refusal, is_good_face};
 
 /// The terms of a loan.
-#[derive(Clone, Copy)]
+#[derive(Clone, Copy, Debug, PartialEq, Eq)]
 pub struct Terms {
     pub borrower: u8,
     pub bond: u8,
@@ -64,16 +64,15 @@ fn check_time(records: &Records, order: &Order) -> Result<u32, Refusal>
     ensures answer { result ≡ answered (first_of (time_rules (kept_of records.now) order.now)) (records.now.time.day + order.now.term) }
     ensures short { OnOk result (order.now.term < 256) }
 {
-    let Some(kind) = OrderKind::from_number(order.kind) else {
-        return Err(Layer::Order.refuse(Cause::Figure, 0));
-    };
+    let kind = OrderKind::try_from(order.kind)?;
     if !kind.may_come(records.time.minute) {
         return Err(Layer::Order.refuse(Cause::Time, 0));
     }
-    if order.term == 0 || order.term > records.limits.longest_term as u64 {
+    if order.term == 0 || order.term > u64::from(records.limits.longest_term) {
         return Err(Layer::Order.refuse(Cause::Term, 0));
     }
-    let due = records.time.day as u64 + order.term;
+    let due = u64::from(records.time.day) + order.term;
+    // a cast, which tells the proof that a due day is below 2 ^ 32; `u64::from` does not
     if due >= records.bonds[order.bond as usize].maturity as u64 {
         return Err(Layer::Order.refuse(Cause::Maturity, 0));
     }

@@ -5,15 +5,6 @@ use Rattle.std.proofs.lemmas.Bool.Decides.{nat_tests}
 use Rattle.pledge.specs.Rows.{row_face, any_of}
 use Rattle.pledge.specs.declared.rows.PledgeRow.{PledgeRow}
 
--- the sum over four rows, one by one
-pub sum_four : {X : Type 0} (f : X → ℕ) (xs : List X) (d : X) → length xs ≡ 4 → sum_by f xs ≡ f (get_or xs 0 d) + f (get_or xs 1 d) + f (get_or xs 2 d) + f (get_or xs 3 d)
-sum_four f (a ∷ b ∷ c ∷ e ∷ []) d h = omega arith
-sum_four f [] d h = absurd (omega arith)
-sum_four f (a ∷ []) d h = absurd (omega arith)
-sum_four f (a ∷ b ∷ []) d h = absurd (omega arith)
-sum_four f (a ∷ b ∷ c ∷ []) d h = absurd (omega arith)
-sum_four f (a ∷ b ∷ c ∷ e ∷ g ∷ xs) d h = absurd (omega arith)
-
 -- rows come to a face above 0 where one of them is above 0
 pub some_face : (bond : ℕ) (rows : List PledgeRow) → ltb 0 (sum_by (row_face bond) rows) ≡ any_of bond rows
 some_face bond [] = refl

@@ -7,4 +7,5 @@ mod swap;
 mod trial;
 
 pub use rows::{Pledge, PledgeRow, Pricing, RowsOf};
+pub use swap::Exchange;
 pub use trial::Trial;

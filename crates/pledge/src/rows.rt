@@ -1,13 +1,13 @@
 //! The rows of a pledge, what they are worth at the held prices, and the face of one bond in them.
-ghost use Rattle.std.specs.Prelude.{◌≡◌, ◌^◌, ◌<◌, sum_by, nat_lt};
+ghost use Rattle.std.specs.Prelude.{◌≡◌, sum_by, nat_lt};
 ghost use Rattle.pledge.specs.Rows.{row_worth, row_face, worth_of, face_of, any_of};
 
 use figures::values::row_value;
-use sums::total::{AmountFor, Every, total};
+use sums::total::{AmountFor, total};
 use tables::Bond;
 
 /// One row: a face of one bond. An unused row is of face 0 and bond 0.
-#[derive(Clone, Copy)]
+#[derive(Clone, Copy, Debug, Default, PartialEq, Eq)]
 pub struct PledgeRow {
     pub bond: u8,
     /// In yuan.
@@ -15,7 +15,7 @@ pub struct PledgeRow {
 }
 
 /// The rows of one loan, filled from the front. An unused row counts nothing.
-#[derive(Clone, Copy)]
+#[derive(Clone, Copy, Debug, Default, PartialEq, Eq)]
 pub struct Pledge {
     pub rows: [PledgeRow; 4],
 }
@@ -33,10 +33,10 @@ impl<'a> AmountFor<Pricing<'a>> for PledgeRow {
 
     fn amount_for(&self, asked: &Pricing<'a>) -> u64 {
         let bonds = asked.bonds;
-        match bonds.get(self.bond as usize) {
-            Some(bond) => row_value(self.face, bond.price, bond.discount, asked.multiplier),
-            None => 0,
-        }
+        let Some(bond) = bonds.get(usize::from(self.bond)) else {
+            return 0;
+        };
+        row_value(self.face, bond.price, bond.discount, asked.multiplier)
     }
 }
 
@@ -50,7 +50,7 @@ impl AmountFor<RowsOf> for PledgeRow {
     ghost amount_for = { λ asked row. row_face asked.bond row };
 
     fn amount_for(&self, asked: &RowsOf) -> u64 {
-        self.face_for(asked.bond)
+        u64::from(self.face_for(asked.bond))
     }
 }
 
@@ -63,6 +63,7 @@ impl Pledge {
     }
 
     /// The face of a bond in the rows together.
+    #[tactic(auto, using(crate::proofs::Faces::some_face))]
     pub fn face_of(&self, bond: u8) -> u64
         ensures sum { result ≡ face_of bond self.now }
         ensures some { nat_lt 0 result ≡ any_of bond self.now.rows }
@@ -80,29 +81,16 @@ impl Pledge {
 
 impl PledgeRow {
     // What the row counts for a bond.
-    fn face_for(&self, bond: u8) -> u64
-        ensures face { result ≡ row_face bond self.now }
-        ensures small { result < 2 ^ 32 }
+    fn face_for(&self, bond: u8) -> u32
+        ensures { result ≡ row_face bond self.now }
     {
-        if self.bond == bond {
-            u64::from(self.face)
-        } else {
-            0
-        }
+        if self.bond == bond { self.face } else { 0 }
     }
 }
 
-// Four faces of a u32 each fit a u64.
+// Four faces of a u32 each fit a u64, which the total of any u64 rows need not.
 fn faces(rows: &[PledgeRow; 4], bond: u8) -> u64
-    ensures sum { result ≡ sum_by (row_face bond) rows.now }
-    ensures some { nat_lt 0 result ≡ any_of bond rows.now }
+    ensures { result ≡ sum_by (row_face bond) rows.now }
 {
-    let [first, second, third, fourth] = rows;
-    let faces = [
-        first.face_for(bond),
-        second.face_for(bond),
-        third.face_for(bond),
-        fourth.face_for(bond),
-    ];
-    total(&faces, &Every) as u64
+    rows.iter().map(|row| u64::from(row.face_for(bond))).sum()
 }

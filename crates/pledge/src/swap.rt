@@ -1,5 +1,6 @@
 //! The swap of a pledge row, tried under the guard: refused, it leaves the pledge as it was.
-ghost use Rattle.std.specs.Prelude.{◌+◌, ◌^◌, ◌<◌};
+ghost use Rattle.std.specs.Prelude.{◌≡◌, ◌+◌, ◌^◌, ◌<◌};
+ghost use Rattle.terms.specs.Table.{answered};
 ghost use Rattle.terms.specs.Refusals.{Settles};
 ghost use Rattle.pledge.specs.Rows.{row_worth, worth_of, with_row};
 ghost use Rattle.pledge.specs.Swaps.{judged, swapped};
@@ -9,66 +10,68 @@ use crate::trial::Trial;
 use sums::total::{AmountFor, total};
 use terms::{Cause, Layer, Refusal};
 
-impl Pledge {
-    /// Tries a new row in the place of row i. It is refused where there is no such row, then where the rows
-    /// with it are worth less than needed, and then as `later` says, the refusal of the rules after these.
-    pub fn swap(
-        &mut self,
-        i: usize,
-        new: PledgeRow,
-        pricing: &Pricing,
-        needed: u128,
-        later: Option<Refusal>,
-    ) -> Result<(), Refusal>
-        ensures { Settles (swapped pricing.now.bonds.now pricing.now.multiplier self.old i new needed later) tt self.old (with_row self.old i new) result self.new }
+/// A row for the place of another, and what is asked of the pledge with it.
+#[derive(Clone, Copy)]
+pub struct Exchange<'a> {
+    /// The number of the row that it takes the place of.
+    pub row: usize,
+    pub new: PledgeRow,
+    pub pricing: Pricing<'a>,
+    /// What the rows have to be worth, in fen.
+    pub needed: u128,
+    /// The refusal of the rules after these, if any.
+    pub later: Option<Refusal>,
+}
+
+impl Exchange<'_> {
+    // Tries the row in the place of an old one, beside others of this worth.
+    fn try_on(&self, row: &mut PledgeRow, others: u128) -> Result<(), Refusal>
+        requires { others < 2 ^ 100 }
+        ensures { Settles (judged (others + row_worth self.now.pricing.bonds.now self.now.pricing.multiplier self.now.new) self.now.needed self.now.later) tt row.old self.now.new result row.new }
     {
-        if i >= self.rows.len() {
-            return Err(Layer::Order.refuse(Cause::Stage, 0));
-        }
-        self.swap_row(i, new, pricing, needed, later)
+        let trial = Trial::begin(row, self.new);
+        let worth = trial.row().amount_for(&self.pricing);
+        self.check(others + u128::from(worth))?;
+        trial.accept();
+        Ok(())
     }
 
-    // The other rows are counted before the guard holds row i.
-    fn swap_row(
-        &mut self,
-        i: usize,
-        new: PledgeRow,
-        pricing: &Pricing,
-        needed: u128,
-        later: Option<Refusal>,
-    ) -> Result<(), Refusal>
-        requires { i < 4 }
-        ensures { Settles (judged (worth_of pricing.now.bonds.now pricing.now.multiplier (with_row self.old i new)) needed later) tt self.old (with_row self.old i new) result self.new }
+    // Rows of this worth have to be worth what is needed, and then to meet the later rules.
+    fn check(&self, worth: u128) -> Result<(), Refusal>
+        ensures { result ≡ answered (judged worth self.now.needed self.now.later) tt }
     {
-        let others = total(&self.rows[..i], pricing) + total(&self.rows[i + 1..], pricing);
-        try_row(&mut self.rows[i], new, others, pricing, needed, later)
+        if worth < self.needed {
+            return Err(Layer::Worth.refuse(Cause::Value, 0));
+        }
+        match self.later {
+            Some(refusal) => Err(refusal),
+            None => Ok(()),
+        }
     }
 }
 
-fn try_row(
-    row: &mut PledgeRow,
-    new: PledgeRow,
-    others: u128,
-    pricing: &Pricing,
-    needed: u128,
-    later: Option<Refusal>,
-) -> Result<(), Refusal>
-    requires { others < 2 ^ 100 }
-    ensures { Settles (judged (others + row_worth pricing.now.bonds.now pricing.now.multiplier new) needed later) tt row.old new result row.new }
-{
-    let trial = Trial::begin(row, new);
-    if others + (trial.row().amount_for(pricing) as u128) < needed {
-        return Err(Refusal {
-            cause: Cause::Value,
-            spot: 0,
-            layer: Layer::Worth,
-        });
+impl Pledge {
+    /// Tries a row in the place of another. It is refused where there is no such row, then where the rows
+    /// with it are worth less than needed, and then by the later rules.
+    pub fn swap(&mut self, exchange: &Exchange) -> Result<(), Refusal>
+        ensures { Settles (swapped exchange.now self.old) tt self.old (with_row self.old exchange.now.row exchange.now.new) result self.new }
+    {
+        if exchange.row >= self.rows.len() {
+            return Err(Layer::Order.refuse(Cause::Stage, 0));
+        }
+        self.swap_row(exchange)
     }
-    if let Some(refusal) = later {
-        return Err(refusal);
+
+    // The other rows are counted before the guard holds this one. Not joined with `swap`: the proof needs a file,
+    // and a bug in the public call is to be refused at its own line.
+    fn swap_row(&mut self, exchange: &Exchange) -> Result<(), Refusal>
+        requires { exchange.now.row < 4 }
+        ensures { Settles (judged (worth_of exchange.now.pricing.bonds.now exchange.now.pricing.multiplier (with_row self.old exchange.now.row exchange.now.new)) exchange.now.needed exchange.now.later) tt self.old (with_row self.old exchange.now.row exchange.now.new) result self.new }
+    {
+        let Exchange { row, pricing, .. } = *exchange;
+        let others = total(&self.rows[..row], &pricing) + total(&self.rows[row + 1..], &pricing);
+        exchange.try_on(&mut self.rows[row], others)
     }
-    trial.accept();
-    Ok(())
 }
 
 #[cfg(test)]
@@ -91,7 +94,7 @@ mod tests {
             bonds: &[bond; 16],
             multiplier: 100,
         };
-        let unused = PledgeRow { bond: 0, face: 0 };
+        let unused = PledgeRow::default();
         let enough = PledgeRow {
             bond: 1,
             face: 11_670_000,
@@ -103,13 +106,21 @@ mod tests {
         let mut pledge = Pledge {
             rows: [enough, unused, unused, unused],
         };
-        assert!(rt;
-            pledge
-                .swap(0, fewer, &pricing, 1_050_034_247, None)
-                .is_err()
-        );
+        let exchange = Exchange {
+            row: 0,
+            new: fewer,
+            pricing,
+            needed: 1_050_034_247,
+            later: None,
+        };
+        assert!(rt; pledge.swap(&exchange).is_err());
         assert_eq!(rt; pledge.worth(&pricing), 1_050_300_000);
-        assert!(rt; pledge.swap(1, fewer, &pricing, 2_099_700_000, None).is_ok());
+        let second = Exchange {
+            row: 1,
+            needed: 2_099_700_000,
+            ..exchange
+        };
+        assert!(rt; pledge.swap(&second).is_ok());
         assert!(rt; pledge.has_bond(2) && pledge.face_of(1) == 11_670_000);
     }
 }

@@ -2,6 +2,7 @@
 ghost use Rattle.std.specs.Prelude.{◌≡◌};
 
 use crate::rows::PledgeRow;
+use std::mem;
 
 /// A pledge row with another row in its place.
 pub struct Trial<'a> {
@@ -16,8 +17,7 @@ impl<'a> Trial<'a> {
         ensures held { result.old ≡ row.old }
         ensures place { result.row.ghost_name ≡ row.entry.ghost_name }
     {
-        let old = *row;
-        *row = new;
+        let old = mem::replace(row, new);
         Trial { row, old }
     }
 

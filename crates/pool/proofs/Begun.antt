@@ -11,11 +11,12 @@ use Rattle.pool.specs.Promises.{Opens, Begins}
 use Rattle.pool.specs.Life.{began}
 use Rattle.pool.specs.declared.Pool.{Pool}
 use Rattle.pool.specs.declared.days.OpenDay.{OpenDay}
+use Rattle.pool.specs.declared.opening.Parts.{Parts}
 use Rattle.pool.specs.declared.opening.Unopened.{Unopened}
 use Rattle.pool.proofs.Laws.{law}
 use Rattle.pool.proofs.Named.{opening_named}
 use Rattle.records.specs.declared.kept.Records.{Records}
 
-pub begins : {X Y Z : Type 0} (b : BookMeaning X) (c : BookMeaning Y) (m : RuleMeaning Z) (x : X) (y : Y) (z : Z) (o : Opening) (r : Result (Pool X Y Z × OpenDay) (Unopened X Y Z)) → Opens b c m x y z o r → Begins b c m x y z o r
-begins b c m x y z o (Ok p) h = (h, (h.0, h.1), law (began o) _ (h.0, h.1))
-begins b c m x y z o (Err u) h = (h, subst WellNamed h.0 (opening_named o))
+pub begins : {X Y Z : Type 0} (b : BookMeaning X) (c : BookMeaning Y) (m : RuleMeaning Z) (parts : Parts X Y Z) (o : Opening) (r : Result (Pool X Y Z × OpenDay) (Unopened X Y Z)) → Opens b c m parts o r → Begins b c m parts o r
+begins b c m parts o (Ok p) h = (h, (h.0, h.1), law (began o) _ (h.0, h.1))
+begins b c m parts o (Err u) h = (h, subst WellNamed h.0 (opening_named o))

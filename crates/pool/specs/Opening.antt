@@ -10,6 +10,7 @@ use Rattle.share.specs.declared.SharingRule.{Ghosts as RuleMeaning}
 use Rattle.records.specs.Openings.{figures_rules, opened_records}
 use Rattle.records.specs.declared.opening.Figures.{Figures}
 use Rattle.pool.specs.State.{State}
+use Rattle.pool.specs.declared.opening.Parts.{Parts}
 
 pub record Opening : Type 0 where
   pub bonds : Ledger
@@ -17,8 +18,8 @@ pub record Opening : Type 0 where
   pub rule : List ℕ → ℕ → List ℕ
   pub figures : Figures
 
-abbrev pub opening_of : {X Y Z : Type 0} → BookMeaning X → BookMeaning Y → RuleMeaning Z → X → Y → Z → Figures → Opening
-opening_of b c r x y z f = record { bonds = ledger b x; cash = ledger c y; rule = r.meaning z; figures = f }
+abbrev pub opening_of : {X Y Z : Type 0} → BookMeaning X → BookMeaning Y → RuleMeaning Z → Parts X Y Z → Figures → Opening
+opening_of b c r p f = record { bonds = ledger b p.bonds; cash = ledger c p.cash; rule = r.meaning p.rule; figures = f }
 
 -- both books have their places and the largest amount, and hold none above it; then every figure is in its range
 abbrev pub opening_rules : Ledger → Ledger → Figures → List (Bool × Refusal)

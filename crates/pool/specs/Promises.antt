@@ -13,6 +13,7 @@ use Rattle.pool.specs.Life.{History, began, called, LeadsTo}
 use Rattle.pool.specs.Law.{Law}
 use Rattle.pool.specs.declared.Pool.{Pool}
 use Rattle.pool.specs.declared.days.OpenDay.{OpenDay}
+use Rattle.pool.specs.declared.opening.Parts.{Parts}
 use Rattle.pool.specs.declared.opening.Unopened.{Unopened}
 
 -- one call with its answer: every history that leads to s leads on by it to t, and the law holds there
@@ -45,14 +46,13 @@ pub record PassesOn {D E : Type 0} (s : State) (day : ℕ) (call : Call) (old : 
   pub life : GoesOn s day call (refused_with r) t
 
 -- an opening: the pool with its first day, or the first refusal with the books and the rule handed back
-abbrev pub Opens : {X Y Z : Type 0} → BookMeaning X → BookMeaning Y → RuleMeaning Z → X → Y → Z → Opening → Result (Pool X Y Z × OpenDay) (Unopened X Y Z) → Type 0
-Opens b c r x y z o (Ok p) =
+abbrev pub Opens : {X Y Z : Type 0} → BookMeaning X → BookMeaning Y → RuleMeaning Z → Parts X Y Z → Opening → Result (Pool X Y Z × OpenDay) (Unopened X Y Z) → Type 0
+Opens b c r parts o (Ok p) =
     (opening_verdict o ≡ None) × (state_of b c r p.0 ≡ opening_state o) × (p.1.number ≡ o.figures.day)
-Opens b c r x y z o (Err u) =
-    (opening_verdict o ≡ Some u.refusal) × (u.bonds ≡ x) × (u.cash ≡ y) × (u.rule ≡ z)
+Opens b c r parts o (Err u) = (opening_verdict o ≡ Some u.refusal) × (u.parts ≡ parts)
 
 -- the same, and a life begins by an accepted opening
-abbrev pub Begins : {X Y Z : Type 0} → BookMeaning X → BookMeaning Y → RuleMeaning Z → X → Y → Z → Opening → Result (Pool X Y Z × OpenDay) (Unopened X Y Z) → Type 0
-Begins b c r x y z o (Ok p) =
-    Opens b c r x y z o (Ok p) × LeadsTo (began o) (state_of b c r p.0) × Law (began o) (state_of b c r p.0)
-Begins b c r x y z o (Err u) = Opens b c r x y z o (Err u) × WellNamed (Some u.refusal)
+abbrev pub Begins : {X Y Z : Type 0} → BookMeaning X → BookMeaning Y → RuleMeaning Z → Parts X Y Z → Opening → Result (Pool X Y Z × OpenDay) (Unopened X Y Z) → Type 0
+Begins b c r parts o (Ok p) =
+    Opens b c r parts o (Ok p) × LeadsTo (began o) (state_of b c r p.0) × Law (began o) (state_of b c r p.0)
+Begins b c r parts o (Err u) = Opens b c r parts o (Err u) × WellNamed (Some u.refusal)

@@ -16,9 +16,9 @@ pub record State : Type 0 where
 -- what a pool over any books and rule stands for, by what these say that they mean
 abbrev pub state_of : {X Y Z : Type 0} → BookMeaning X → BookMeaning Y → RuleMeaning Z → Pool X Y Z → State
 state_of b c r p = record {
-  bonds = ledger b p.bonds;
-  cash = ledger c p.cash;
-  rule = r.meaning p.rule;
+  bonds = ledger b p.parts.bonds;
+  cash = ledger c p.parts.cash;
+  rule = r.meaning p.parts.rule;
   kept = p.records;
 }
 

@@ -106,10 +106,10 @@ impl<B: Book, C: Book, S: SharingRule> Pool<B, C, S> {
                 bond,
                 face,
             } => {
-                transfers::deliver(&mut self.bonds, &self.records, today, from, to, bond, face)
+                transfers::deliver(&mut self.parts.bonds, &self.records, today, from, to, bond, face)
             }
             Call::Remit { from, to, fen } => {
-                transfers::remit(&mut self.cash, &self.records, today, from, to, fen)
+                transfers::remit(&mut self.parts.cash, &self.records, today, from, to, fen)
             }
             Call::Shut => self.records.shut(today),
             Call::Next { day, r001 } => self.records.next(today, day, r001),

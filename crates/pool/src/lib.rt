@@ -9,7 +9,7 @@ mod views;
 
 use book::Book;
 pub use days::{Day, OpenDay, ShutDay};
-pub use opening::Unopened;
+pub use opening::{Parts, Unopened};
 use records::Records;
 use share::SharingRule;
 
@@ -17,8 +17,6 @@ use share::SharingRule;
 /// Clauses see it by `state_of`: a model of it would have to hold the rule's meaning, and a value that holds a function has no code.
 #[derive(Drop)]
 pub struct Pool<B: Book, C: Book, S: SharingRule> {
-    bonds: B,
-    cash: C,
-    rule: S,
+    parts: Parts<B, C, S>,
     records: Records,
 }

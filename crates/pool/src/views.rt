@@ -15,20 +15,20 @@ impl<B: Book, C: Book, S: SharingRule> Pool<B, C, S> {
     pub fn bond_amount(&self, place: usize) -> Option<u64>
         ensures { result ≡ amount_at (state_of B.Book C.Book S.SharingRule self.now).bonds.amounts place }
     {
-        self.bonds.amount(place)
+        self.parts.bonds.amount(place)
     }
 
     /// The cash, in fen, at a place of the cash book; `None` exactly when there is no such place.
     pub fn cash_amount(&self, place: usize) -> Option<u64>
         ensures { result ≡ amount_at (state_of B.Book C.Book S.SharingRule self.now).cash.amounts place }
     {
-        self.cash.amount(place)
+        self.parts.cash.amount(place)
     }
 
     /// The face of a bond that a member may lend now.
     pub fn lendable(&self, account: u64, bond: u64) -> Result<u64, Refusal>
         ensures { result ≡ answered (first_of (lendable_rules account bond)) (lendable_at (state_of B.Book C.Book S.SharingRule self.now).bonds (state_of B.Book C.Book S.SharingRule self.now).kept account bond) }
     {
-        transfers::lendable_face(&self.bonds, &self.records, account, bond)
+        transfers::lendable_face(&self.parts.bonds, &self.records, account, bond)
     }
 }

@@ -1,2 +1,1 @@
-mod Sounding
-mod Settling
+mod Shutting

@@ -1,22 +1,21 @@
 -- The loans of a pool, in the order in which they were accepted: what is asked of them, and what calls make of them.
-use Rattle.std.specs.Prelude.{ℕ, Bool, false, List, [], ◌∷◌, ◌++◌, map, length, vec_items, sum_by, nat_le, slice_index_or, slice_set}
+use Rattle.std.specs.Prelude.{ℕ, Bool, false, cond, List, [], ◌∷◌, ◌++◌, map, length, Some, sum_by, Option, nat_le, slice_index_or, slice_set}
 use Rattle.terms.specs.Refusals.{refuse_order}
 use Rattle.terms.specs.declared.refusal.Refusal.{Refusal}
 use Rattle.terms.specs.declared.refusal.Cause.TheVariants as cause
+use Rattle.pledge.specs.Rows.{with_row}
+use Rattle.pledge.specs.Swaps.{swapped}
 use Rattle.pledge.specs.declared.rows.Pledge.{Pledge}
+use Rattle.pledge.specs.declared.swap.Exchange.{Exchange}
 use Rattle.loan.specs.Kept.{shut_on}
 use Rattle.loan.specs.Totals.{lent_of, out_of, unclosed_of, rows_of}
 use Rattle.loan.specs.declared.kept.LoanRow.{LoanRow}
 use Rattle.loan.specs.declared.stage.Stage.TheVariants.{Back}
-use Rattle.register.specs.declared.Register.{Register}
 
 pub record Loans : Type 0 where
   pub rows : List LoanRow
   -- the number of loan rows kept: no more loans than this are ever accepted
   pub most : ℕ
-
-abbrev pub loans_of : Register → Loans
-loans_of r = record { rows = vec_items r.rows; most = r.most }
 
 -- loan n does not exist where n or fewer loans have been accepted
 abbrev pub no_such_loan : Loans → ℕ → Bool
@@ -58,6 +57,14 @@ pledging row p = record {
 
 abbrev pub with_pledge : Loans → ℕ → Pledge → Loans
 with_pledge l n p = record { rows = slice_set l.rows n (pledging (loan_at l n) p); most = l.most }
+
+-- why a row is refused the place of another: there is no such loan, or its pledge refuses it
+abbrev pub swap_refused : Loans → ℕ → Exchange → Option Refusal
+swap_refused l n e = cond (no_such_loan l n) (Some (refuse_order cause.Loan 0)) (swapped e (loan_at l n).pledge)
+
+-- the loans with a row of a pledge exchanged
+abbrev pub with_exchange : Loans → ℕ → Exchange → Loans
+with_exchange l n e = with_pledge l n (with_row (loan_at l n).pledge e.row e.new)
 
 -- the loans once the day is shut
 abbrev pub all_shut : ℕ → Loans → Loans

@@ -1,94 +1,68 @@
 //! Loans are added, swapped a row and marked at the end of a day; none is ever taken out.
-ghost use Rattle.std.specs.Prelude.{◌≡◌, ◌<◌, [], length, IfOk, if◌then◌else◌, Some, None, vec_len};
-ghost use Rattle.terms.specs.Refusals.{Settles, refuse_order};
-ghost use Rattle.terms.specs.declared.refusal.Cause.TheVariants as cause;
-ghost use Rattle.loan.specs.Kept.{row_of};
-ghost use Rattle.pledge.specs.Rows.{with_row};
-ghost use Rattle.pledge.specs.Swaps.{swapped};
-ghost use Rattle.register.specs.Loans.{loans_of, no_such_loan, loan_at, is_full, with_loan, with_pledge, all_shut};
+ghost use Rattle.std.specs.Prelude.{◌≡◌, [], map, length, IfOk, if◌then◌else◌, Some, None};
+ghost use Rattle.terms.specs.Refusals.{Settles};
+ghost use Rattle.loan.specs.Kept.{row_of, shut_on};
+ghost use Rattle.register.specs.Loans.{is_full, with_loan, swap_refused, with_exchange, all_shut};
 
 use crate::Register;
-use loan::Loan;
-use pledge::{PledgeRow, Pricing};
+use loan::{Loan, LoanRow};
+use pledge::Exchange;
 use std::alloc::{AllocError, Global};
 use terms::{Cause, Layer, Refusal};
 
 impl Register {
     /// A register with room for so many loans.
     pub fn open(heap: Global, most: u16) -> Result<Register, AllocError>
-        ensures { IfOk result (λ v. loans_of v ≡ record { rows = []; most = most }) }
+        ensures { IfOk result (λ v. v ≡ record { rows = []; most = most }) }
     {
-        let rows = Vec::with_capacity(heap, most as usize)?;
+        let rows = Vec::with_capacity(heap, usize::from(most))?;
         Ok(Register { rows, most })
     }
 
     /// Whether as many loans have been accepted as rows are kept.
     pub fn is_full(&self) -> bool
-        ensures { result ≡ is_full (loans_of self.now) }
+        ensures { result ≡ is_full self.now }
     {
-        self.rows.len() >= self.most as usize
+        self.rows.len() >= usize::from(self.most)
     }
 
     /// Adds a loan and gives its number; a full register stays as it is.
     pub fn add(&mut self, loan: Loan) -> Option<u64>
-        ensures number { result ≡ (if is_full (loans_of self.old) then None else Some (length (loans_of self.old).rows)) }
-        ensures rows { loans_of self.new ≡ (if is_full (loans_of self.old) then loans_of self.old else with_loan (loans_of self.old) (row_of loan)) }
+        ensures number { result ≡ (if is_full self.old then None else Some (length self.old.rows)) }
+        ensures rows { self.new ≡ (if is_full self.old then self.old else with_loan self.old (row_of loan)) }
     {
         if self.is_full() {
             return None;
         }
         let number = self.rows.len() as u64;
-        self.rows.push_reserved(loan.to_row());
+        self.rows.push_reserved(loan.into());
         Some(number)
     }
 
-    /// Tries another row in the place of row i of a loan's pledge; refused, the loan stays as it is.
-    pub fn swap(
-        &mut self,
-        loan: u64,
-        i: usize,
-        new: PledgeRow,
-        pricing: &Pricing,
-        needed: u128,
-        later: Option<Refusal>,
-    ) -> Result<(), Refusal>
-        ensures { Settles (if no_such_loan (loans_of self.old) loan then Some (refuse_order cause.Loan 0) else swapped pricing.now.bonds.now pricing.now.multiplier (loan_at (loans_of self.old) loan).pledge i new needed later) tt (loans_of self.old) (with_pledge (loans_of self.old) loan (with_row (loan_at (loans_of self.old) loan).pledge i new)) result (loans_of self.new) }
+    /// Tries a row in the place of another in a loan's pledge; refused, the loan stays as it is.
+    pub fn swap(&mut self, loan: u64, exchange: &Exchange) -> Result<(), Refusal>
+        ensures { Settles (swap_refused self.old loan exchange.now) tt self.old (with_exchange self.old loan exchange.now) result self.new }
     {
-        if loan >= self.rows.len() as u64 {
+        let Some(row) = self.rows.get_mut(loan as usize) else {
             return Err(Layer::Order.refuse(Cause::Loan, 0));
-        }
-        self.swap_row(loan as usize, i, new, pricing, needed, later)
-    }
-
-    // The same of a loan that there is.
-    fn swap_row(
-        &mut self,
-        loan: usize,
-        i: usize,
-        new: PledgeRow,
-        pricing: &Pricing,
-        needed: u128,
-        later: Option<Refusal>,
-    ) -> Result<(), Refusal>
-        requires { loan < vec_len self.old.rows }
-        ensures { Settles (swapped pricing.now.bonds.now pricing.now.multiplier (loan_at (loans_of self.old) loan).pledge i new needed later) tt (loans_of self.old) (with_pledge (loans_of self.old) loan (with_row (loan_at (loans_of self.old) loan).pledge i new)) result (loans_of self.new) }
-    {
-        self.rows[loan].pledge.swap(i, new, pricing, needed, later)
+        };
+        row.pledge.swap(exchange)
     }
 
     /// Marks every loan as the end of a day leaves it.
+    #[tactic(auto, using(crate::proofs::Shutting::kept_shut))]
     pub fn shut(&mut self, day: u32)
-        ensures { loans_of self.new ≡ all_shut day (loans_of self.old) }
+        ensures { self.new ≡ all_shut day self.old }
     {
-        self.shut_each(day);
+        mark_each(&mut self.rows, day);
     }
+}
 
-    fn shut_each(&mut self, day: u32)
-        ensures { loans_of self.new ≡ all_shut day (loans_of self.old) }
-    {
-        for i in 0..self.rows.len() {
-            let row = self.rows[i];
-            self.rows[i] = row.at_shut(day);
-        }
+// Marks the rows one by one.
+fn mark_each(rows: &mut [LoanRow], day: u32)
+    ensures { rows.new ≡ map (shut_on day) rows.old }
+{
+    for row in rows.iter_mut() {
+        *row = row.at_shut(day);
     }
 }

@@ -5,10 +5,8 @@
 mod asking;
 mod keeping;
 
-ghost use Rattle.std.specs.Prelude.{◌≡◌, ◌^◌, ◌<◌, ◌≤◌, true, length, vec_capacity};
-ghost use Rattle.register.specs.Sound.{all_sound};
-
 use loan::LoanRow;
+use std::marker::Model;
 
 /// Loans in the order in which they were accepted. A loan's number is its place here.
 #[derive(Drop)]
@@ -16,8 +14,16 @@ pub struct Register {
     rows: Vec<LoanRow>,
     /// The number of loan rows kept.
     most: u16,
-    ghost counted: { most < 2 ^ 16 },
-    ghost roomy: { most ≤ vec_capacity rows },
-    ghost few: { length rows.items ≤ most },
-    ghost sound: { all_sound rows.items ≡ true },
+}
+
+impl Model for Register {
+    ghost use Rattle.register.specs.Loans.{Loans};
+
+    ghost Value = { Loans };
+
+    ghost use Rattle.register.specs.Kept.{IsKept};
+
+    ghost view = { λ r. record { rows = r.rows.items; most = r.most } };
+
+    ghost invariant = { IsKept };
 }

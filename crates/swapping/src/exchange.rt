@@ -1,24 +1,25 @@
 //! The call swap. `day` is the number of the day that the caller holds.
 ghost use Rattle.std.specs.Prelude.{◌≡◌, false};
-ghost use Rattle.terms.specs.Table.{first_of};
-ghost use Rattle.terms.specs.Refusals.{Settles};
 ghost use Rattle.book.specs.Ledgers.{ledger};
 ghost use Rattle.moves.specs.Many.{after_moves};
 ghost use Rattle.records.specs.Kept.{kept_of};
-ghost use Rattle.register.specs.Loans.{loans_of, loan_at, no_such_loan};
-ghost use Rattle.swapping.specs.Swaps.{kept_rules, swap_rules, swap_moves, exchanged};
+ghost use Rattle.lending.specs.View.{viewed};
+ghost use Rattle.register.specs.Loans.{loan_at, no_such_loan};
+ghost use Rattle.swapping.specs.Swaps.{swap_moves, SwappedIn, Swapped};
 
 use crate::judging::{check_loan, find_later, row_of, terms_in};
 use book::{Book, available_place, pledged_place};
+use lending::View;
 use loan::LoanRow;
 use orders::check_row;
-use pledge::{PledgeRow, Pricing};
+use pledge::{Exchange, PledgeRow, Pricing};
 use records::Records;
 use register::Register;
 use terms::{Cause, Layer, OrderRow, Refusal};
 use worth::{multiplier_of, needed};
 
 /// Exchanges a row of a loan's pledge for another.
+#[tactic(auto, using(crate::proofs::Tried::not_today, crate::proofs::Tried::not_there, crate::proofs::Tried::on_day))]
 pub fn swap<B: Book>(
     bonds: &mut B,
     records: &Records,
@@ -28,22 +29,7 @@ pub fn swap<B: Book>(
     row: u64,
     new: OrderRow,
 ) -> Result<(), Refusal>
-    ensures { Settles (first_of (swap_rules (ledger B.Book bonds.old) (kept_of records.now) (loans_of loans.old) day loan row new)) tt (B.Book.amounts bonds.old, loans_of loans.old) (exchanged (ledger B.Book bonds.old) (loans_of loans.old) loan row new) result (B.Book.amounts bonds.new, loans_of loans.new) }
-{
-    swap_on(bonds, records, loans, day, loan, row, new)
-}
-
-// The day and the loan are looked at first.
-fn swap_on<B: Book>(
-    bonds: &mut B,
-    records: &Records,
-    loans: &mut Register,
-    day: u32,
-    loan: u64,
-    row: u64,
-    new: OrderRow,
-) -> Result<(), Refusal>
-    ensures { Settles (first_of (swap_rules (ledger B.Book bonds.old) (kept_of records.now) (loans_of loans.old) day loan row new)) tt (B.Book.amounts bonds.old, loans_of loans.old) (exchanged (ledger B.Book bonds.old) (loans_of loans.old) loan row new) result (B.Book.amounts bonds.new, loans_of loans.new) }
+    ensures { Swapped (viewed (ledger B.Book bonds.old) (kept_of records.now) loans.old) day loan row new result (B.Book.amounts bonds.new, loans.new) }
 {
     if records.is_not_open(day) {
         return Err(Layer::Order.refuse(Cause::Time, 0));
@@ -51,7 +37,7 @@ fn swap_on<B: Book>(
     let Some(found) = loans.find(loan) else {
         return Err(Layer::Order.refuse(Cause::Loan, 0));
     };
-    let kept = found.to_row();
+    let kept = LoanRow::from(found);
     swap_in(bonds, records, loans, loan, &kept, row, new)
 }
 
@@ -65,20 +51,30 @@ fn swap_in<B: Book>(
     row: u64,
     new: OrderRow,
 ) -> Result<(), Refusal>
-    requires there { no_such_loan (loans_of loans.old) loan ≡ false }
-    requires same { kept.now ≡ loan_at (loans_of loans.old) loan }
-    ensures { Settles (first_of (kept_rules (ledger B.Book bonds.old) (kept_of records.now) (loans_of loans.old) kept.now row new)) tt (B.Book.amounts bonds.old, loans_of loans.old) (exchanged (ledger B.Book bonds.old) (loans_of loans.old) loan row new) result (B.Book.amounts bonds.new, loans_of loans.new) }
+    requires there { no_such_loan loans.old loan ≡ false }
+    requires same { kept.now ≡ loan_at loans.old loan }
+    ensures { SwappedIn (viewed (ledger B.Book bonds.old) (kept_of records.now) loans.old) kept.now loan row new result (B.Book.amounts bonds.new, loans.new) }
 {
     check_loan(records, kept, row)?;
     let terms = terms_in(kept);
     let pledged = check_row(bonds, records, &terms, &kept.pledge, row, new)?;
-    let later = find_later(bonds, records, loans, kept, row, pledged);
-    let pricing = Pricing {
-        bonds: &records.bonds,
-        multiplier: multiplier_of(records, kept.borrower),
+    let view = View {
+        bonds: &*bonds,
+        records,
+        loans: &*loans,
     };
-    let least = needed(records, &terms, kept.dues.rate);
-    loans.swap(loan, row as usize, pledged, &pricing, least, later)?;
+    let later = find_later(&view, kept, row, pledged);
+    let exchange = Exchange {
+        row: row as usize,
+        new: pledged,
+        pricing: Pricing {
+            bonds: &records.bonds,
+            multiplier: multiplier_of(records, kept.borrower),
+        },
+        needed: needed(records, &terms, kept.dues.rate),
+        later,
+    };
+    loans.swap(loan, &exchange)?;
     move_rows(bonds, kept, row, pledged);
     Ok(())
 }
@@ -91,7 +87,8 @@ fn move_rows<B: Book>(bonds: &mut B, loan: &LoanRow, i: u64, new: PledgeRow)
     let borrower = loan.borrower;
     let source = available_place(borrower, new.bond);
     let target = pledged_place(borrower, new.bond);
-    let _ = bonds.shift(source, target, new.face as u64);
+    let _ = bonds.shift(source, target, u64::from(new.face));
     let freed = pledged_place(borrower, old.bond);
-    let _ = bonds.shift(freed, available_place(borrower, old.bond), old.face as u64);
+    let target = available_place(borrower, old.bond);
+    let _ = bonds.shift(freed, target, u64::from(old.face));
 }

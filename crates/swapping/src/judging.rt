@@ -1,21 +1,19 @@
 //! What a swap has to meet before its value is tried, and after it.
 ghost use Rattle.std.specs.Prelude.{◌≡◌, ◌<◌, IfOk, slice_index_or};
 ghost use Rattle.terms.specs.Table.{first_of, answered};
-ghost use Rattle.book.specs.Ledgers.{ledger};
 ghost use Rattle.records.specs.Kept.{kept_of};
-ghost use Rattle.register.specs.Loans.{loans_of};
 ghost use Rattle.swapping.specs.Swaps.{terms_in, loan_rules, place_rules};
 
 use book::{Book, available_place, has_room, held, pledged_place};
+use lending::View;
 use loan::LoanRow;
 use orders::Terms;
 use pledge::PledgeRow;
 use records::Records;
-use register::Register;
 use terms::{Cause, Layer, Refusal};
 use worth::is_row_above;
 
-// The terms of a kept loan.
+// The terms of a kept loan. No `From`: the two types are of crates that do not know each other.
 pub(crate) fn terms_in(loan: &LoanRow) -> Terms
     ensures { result ≡ terms_in loan.now }
 {
@@ -33,10 +31,7 @@ pub(crate) fn row_of(rows: &[PledgeRow; 4], i: u64) -> PledgeRow
     ensures row { result ≡ slice_index_or rows.now i (record { bond = 0; face = 0 }) }
     ensures used { 0 < result.face → i < 4 }
 {
-    if i >= 4 {
-        return PledgeRow { bond: 0, face: 0 };
-    }
-    rows[i as usize]
+    rows.get(i as usize).copied().unwrap_or_default()
 }
 
 // Whether the loan may still exchange its row i.
@@ -58,27 +53,32 @@ pub(crate) fn check_loan(records: &Records, loan: &LoanRow, i: u64) -> Result<()
 
 // The rules after the value: the pledge limit, what the old row's place holds, and room for both rows.
 pub(crate) fn find_later<B: Book>(
-    bonds: &B,
-    records: &Records,
-    loans: &Register,
+    view: &View<B>,
     loan: &LoanRow,
     i: u64,
     new: PledgeRow,
 ) -> Option<Refusal>
-    ensures { result ≡ first_of (place_rules (ledger B.Book bonds.now) (kept_of records.now) (loans_of loans.now) loan.now i (record { bond = new.bond; face = new.face })) }
+    ensures { result ≡ first_of (place_rules view.now loan.now i (record { bond = new.bond; face = new.face })) }
 {
     let old = row_of(&loan.pledge.rows, i);
     let borrower = loan.borrower;
-    if is_row_above(bonds, records, loans, borrower, new.bond, new.face) {
+    let bonds = view.bonds;
+    if is_row_above(view, borrower, new.bond, new.face) {
         return Some(Layer::Worth.refuse(Cause::Concentration, i));
     }
-    if held(bonds, pledged_place(borrower, old.bond)) < old.face as u64 {
-        return Some(Layer::BondBook.refuse(Cause::Short, borrower as u64));
+    if held(bonds, pledged_place(borrower, old.bond)) < u64::from(old.face) {
+        return Some(Layer::BondBook.refuse(Cause::Short, u64::from(borrower)));
     }
-    if !has_room(bonds, pledged_place(borrower, new.bond), new.face as u64)
-        || !has_room(bonds, available_place(borrower, old.bond), old.face as u64)
-    {
-        return Some(Layer::BondBook.refuse(Cause::Over, borrower as u64));
+    if !has_room(
+        bonds,
+        pledged_place(borrower, new.bond),
+        u64::from(new.face),
+    ) || !has_room(
+        bonds,
+        available_place(borrower, old.bond),
+        u64::from(old.face),
+    ) {
+        return Some(Layer::BondBook.refuse(Cause::Over, u64::from(borrower)));
     }
     None
 }

@@ -1,5 +1,6 @@
 //! A number that was sent for a kind, a right or a mode, and names none.
-ghost use Rattle.std.specs.Prelude.{◌≡◌};
+ghost use Rattle.std.specs.Prelude.{◌≡◌, Some};
+ghost use Rattle.terms.specs.Named.{unknown_text};
 ghost use Rattle.terms.specs.Refusals.{refuse_order};
 ghost use Rattle.terms.specs.declared.refusal.Cause.TheVariants as cause;
 
@@ -12,6 +13,8 @@ use std::fmt;
 pub struct UnknownNumber(pub u64);
 
 impl fmt::Display for UnknownNumber {
+    ghost output = { λ number. Some (unknown_text number) };
+
     fn fmt<W: fmt::Write>(&self, f: &mut fmt::Formatter<W>) -> fmt::Result {
         write!(f, "unknown number {}", self.0)
     }

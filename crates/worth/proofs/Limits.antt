@@ -1,34 +1,37 @@
--- One turn of a loop over the rows of a pledge: the row is over its limit, or the rows after it decide.
-use Rattle.std.proofs.Common.{◌≡◌, ℕ, ◌+◌, ◌<◌, ◌≤◌, Bool, true, false, cond, List, length, get_or, drop, Some, None, Option, sym, ap, ◌∙◌, add-one}
-use Rattle.std.proofs.lemmas.List.{drop_more, drop_all}
+-- The first row over its limit decides over the rows of a pledge.
+use Rattle.std.proofs.Common.{◌≡◌, ℕ, suc, ◌+◌, Bool, true, false, cond, not, ltb, List, [], ◌∷◌, length, Some, None, Option, sym, refl, ap, ◌∙◌, arith}
+use Rattle.std.specs.List.{position_or_len}
+use Rattle.std.specs.Option.{option_map}
+use Rattle.std.proofs.lemmas.Bool.Decides.{nat_tests}
 use Rattle.terms.specs.Refusals.{refuse}
 use Rattle.terms.specs.Table.{first_of}
 use Rattle.terms.specs.declared.refusal.Refusal.{Refusal}
 use Rattle.terms.specs.declared.refusal.Cause.TheVariants as cause
 use Rattle.terms.specs.declared.refusal.Layer.TheVariants as layer
-use Rattle.book.specs.Ledgers.{Ledger}
-use Rattle.records.specs.Kept.{Kept}
-use Rattle.register.specs.Loans.{Loans}
+use Rattle.lending.specs.View.{View}
 use Rattle.pledge.specs.declared.rows.PledgeRow.{PledgeRow}
 use Rattle.worth.specs.Concentration.{row_over, row_limits}
 
-module _ (bonds : Ledger) (k : Kept) (loans : Loans) (borrower : ℕ) (rows : List PledgeRow) where
-  abbrev pub limits_from : ℕ → Option Refusal
-  limits_from i = first_of (row_limits bonds k loans borrower i (drop i rows))
+abbrev pub over_at : ℕ → Refusal
+over_at i = refuse cause.Concentration i layer.Worth
 
-  -- the row at i decides, or the rows from i + 1 on
-  turn : (i : ℕ) (d : PledgeRow) → i < length rows → limits_from i ≡ cond (row_over bonds k loans borrower (get_or rows i d)) (Some (refuse cause.Concentration i layer.Worth)) (limits_from (i + 1))
-  turn i d h =
-      ap (λ (left : List PledgeRow). first_of (row_limits bonds k loans borrower i left)) (drop_more rows i d h)
-      ∙ ap (λ (n : ℕ). cond (row_over bonds k loans borrower (get_or rows i d)) (Some (refuse cause.Concentration i layer.Worth)) (first_of (row_limits bonds k loans borrower n (drop (i + 1) rows)))) (sym (add-one i))
+-- where a list has p, if it has it at all
+abbrev pub place : ℕ → ℕ → Option ℕ
+place p n = cond (ltb p n) (Some p) None
 
-  pub limits_here : (i : ℕ) (d : PledgeRow) → i < length rows → true ≡ row_over bonds k loans borrower (get_or rows i d) → limits_from i ≡ Some (refuse cause.Concentration i layer.Worth)
-  limits_here i d h e =
-      turn i d h ∙ ap (λ (b : Bool). cond b (Some (refuse cause.Concentration i layer.Worth)) (limits_from (i + 1))) (sym e)
+turn : (b : Bool) (i p n : ℕ) (rest : Option Refusal) → rest ≡ option_map (λ k. over_at (suc i + k)) (place p n) → cond b (Some (over_at i)) rest ≡ option_map (λ k. over_at (i + k)) (place (cond (not b) (1 + p) 0) (suc n))
+turn true i p n rest e = grind (arith, nat_tests)
+turn false i p n rest e = grind (arith, nat_tests)
 
-  pub limits_more : (i : ℕ) (d : PledgeRow) → i < length rows → false ≡ row_over bonds k loans borrower (get_or rows i d) → limits_from i ≡ limits_from (i + 1)
-  limits_more i d h e =
-      turn i d h ∙ ap (λ (b : Bool). cond b (Some (refuse cause.Concentration i layer.Worth)) (limits_from (i + 1))) (sym e)
+limits_from : (v : View) (borrower : ℕ) (rows : List PledgeRow) (i : ℕ) → first_of (row_limits v borrower i rows) ≡ option_map (λ k. over_at (i + k)) (place (position_or_len (row_over v borrower) rows) (length rows))
+limits_from v borrower [] i = refl
+limits_from v borrower (row ∷ rows) i =
+    turn (row_over v borrower row) i (position_or_len (row_over v borrower) rows) (length rows) (first_of (row_limits v borrower (suc i) rows)) (limits_from v borrower rows (suc i))
 
-  pub limits_all : (i : ℕ) → length rows ≤ i → limits_from i ≡ None
-  limits_all i h = ap (λ (left : List PledgeRow). first_of (row_limits bonds k loans borrower i left)) (drop_all i rows h)
+from_first : (o : Option ℕ) → option_map (λ k. over_at (0 + k)) o ≡ option_map over_at o
+from_first None = refl
+from_first (Some k) = let e : 0 + k ≡ k = omega arith in ap (λ n. Some (over_at n)) e
+
+-- r is the number of the first row over its limit
+pub limits_first : (v : View) (borrower : ℕ) (rows : List PledgeRow) (r : Option ℕ) → r ≡ place (position_or_len (row_over v borrower) rows) (length rows) → first_of (row_limits v borrower 0 rows) ≡ option_map over_at r
+limits_first v borrower rows r e = limits_from v borrower rows 0 ∙ from_first _ ∙ ap (option_map over_at) (sym e)

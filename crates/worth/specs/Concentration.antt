@@ -4,10 +4,10 @@ use Rattle.terms.specs.Refusals.{refuse}
 use Rattle.terms.specs.declared.refusal.Refusal.{Refusal}
 use Rattle.terms.specs.declared.refusal.Cause.TheVariants as cause
 use Rattle.terms.specs.declared.refusal.Layer.TheVariants as layer
-use Rattle.book.specs.Ledgers.{Ledger}
 use Rattle.moves.specs.Columns.{available_column, pledged_column, column_amounts}
-use Rattle.records.specs.Kept.{Kept, bond_at}
-use Rattle.register.specs.Loans.{Loans, face_out, rows_out}
+use Rattle.records.specs.Kept.{bond_at}
+use Rattle.register.specs.Loans.{face_out, rows_out}
+use Rattle.lending.specs.View.{View}
 use Rattle.pledge.specs.declared.rows.PledgeRow.{PledgeRow}
 
 -- the total of a bond: both places of all 32 accounts
@@ -20,23 +20,23 @@ abbrev pub above : ℕ → ℕ → ℕ → Bool
 above limit total face = nat_lt (limit * total) (1_000 * face)
 
 -- a face more of the bond out to a borrower would pass the bond's lent limit
-abbrev pub lent_above : Ledger → Kept → Loans → ℕ → ℕ → ℕ → Bool
-lent_above bonds k loans borrower bond face =
-    above (bond_at k bond).lent_limit (bond_total bonds.amounts bond) (face_out loans borrower bond + face)
+abbrev pub lent_above : View → ℕ → ℕ → ℕ → Bool
+lent_above v borrower bond face =
+    above (bond_at v.records bond).lent_limit (bond_total v.bonds.amounts bond) (face_out v.loans borrower bond + face)
 
 -- a face more of the bond in a borrower's rows would pass the bond's pledge limit
-abbrev pub row_above : Ledger → Kept → Loans → ℕ → ℕ → ℕ → Bool
-row_above bonds k loans borrower bond face =
-    above (bond_at k bond).pledge_limit (bond_total bonds.amounts bond) (rows_out loans borrower bond + face)
+abbrev pub row_above : View → ℕ → ℕ → ℕ → Bool
+row_above v borrower bond face =
+    above (bond_at v.records bond).pledge_limit (bond_total v.bonds.amounts bond) (rows_out v.loans borrower bond + face)
 
 -- a used row, beside what the borrower has in rows
-abbrev pub row_over : Ledger → Kept → Loans → ℕ → PledgeRow → Bool
-row_over bonds k loans borrower row =
-    nat_lt 0 row.face && row_above bonds k loans borrower row.bond row.face
+abbrev pub row_over : View → ℕ → PledgeRow → Bool
+row_over v borrower row =
+    nat_lt 0 row.face && row_above v borrower row.bond row.face
 
 -- the rows of a borrower from index i on, one by one
-abbrev pub row_limits : Ledger → Kept → Loans → ℕ → ℕ → List PledgeRow → List (Bool × Refusal)
-row_limits bonds k loans borrower i [] = []
-row_limits bonds k loans borrower i (row ∷ rows) =
-    (row_over bonds k loans borrower row, refuse cause.Concentration i layer.Worth)
-    ∷ row_limits bonds k loans borrower (suc i) rows
+abbrev pub row_limits : View → ℕ → ℕ → List PledgeRow → List (Bool × Refusal)
+row_limits v borrower i [] = []
+row_limits v borrower i (row ∷ rows) =
+    (row_over v borrower row, refuse cause.Concentration i layer.Worth)
+    ∷ row_limits v borrower (suc i) rows

@@ -9,7 +9,7 @@ use tables::Bond;
 pub(crate) fn bond_of(records: &Records, bond: u8) -> Bond
     ensures { result ≡ bond_at (kept_of records.now) bond }
 {
-    match records.bonds.get(bond as usize) {
+    match records.bonds.get(usize::from(bond)) {
         Some(bond) => *bond,
         None => Bond {
             unit: 0,

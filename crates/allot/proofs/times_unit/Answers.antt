@@ -1,15 +1,9 @@
-use Rattle.std.proofs.Common.{◌*◌, refl, ◌∙◌, arith, length-set}
-use Rattle.sums.proofs.Fronts.{mapped_more, mapped_all}
+use Rattle.std.proofs.Common.{◌*◌, rules}
+use Rattle.allot.proofs.Mapped.{mapped, callable}
 use Rattle.allot.proofs.times_unit.Goals as goal
 
-pub loop-i-preserved : goal.loop-i-preserved
-loop-i-preserved c = (
-  length-set _ _ _ ∙ c.loop-i.invariant.0,
-  mapped_more (λ s. s * c.args.unit) c.args.shares.now c.loop-i.faces c.loop-i.i _ (omega arith) (omega arith) refl c.loop-i.invariant.1,
-)
+pub map-requires : goal.map-requires
+map-requires c = (search rules, (search rules, (search rules, callable _ _ _ 0 (λ x q k. search rules) c.args.shares.now (λ k l. search rules))))
 
 pub returns : goal.returns
-returns c = mapped_all (λ s. s * c.args.unit) c.args.shares.now c.loop-i.faces c.loop-i.i (omega arith) (omega arith) c.loop-i.invariant.1
-
-pub overflow_mul-faces : goal.overflow_mul-faces
-overflow_mul-faces c = omega (arith, c.requires c.loop-i.i)
+returns c = mapped _ _ (λ x. x * c.args.unit) (λ x r f' k. search rules) _ _ 32 (search rules) c.map.ensures.items

@@ -1,4 +1,4 @@
-use Rattle.std.proofs.Common.{◌≡◌, length, take, drop}
+use Rattle.std.proofs.Common.{◌≡◌, length, drop}
 use Rattle.book.specs.Ledgers.{ledger}
 use Rattle.records.specs.Kept.{kept_of}
 use Rattle.orders.specs.Rows.{unpledged, outcome}
@@ -7,4 +7,4 @@ use Rattle.orders.proofs.rows.pledge_of.Given as goal
 -- the rows that are left lead from this pledge to where all lead from an empty one
 abbrev pub invariant-loop-i : goal.invariant-loop-i
 invariant-loop-i g l =
-    (length l.pledge.rows ≡ 4) × (outcome (ledger g.B.Book l.bonds) (kept_of l.records) l.terms unpledged 0 (take l.count l.rows) ≡ outcome (ledger g.B.Book l.bonds) (kept_of l.records) l.terms l.pledge l.i (drop l.i (take l.count l.rows)))
+    (length l.pledge.rows ≡ 4) × (outcome (ledger g.B.Book l.bonds) (kept_of l.records) l.terms unpledged 0 l.rows ≡ outcome (ledger g.B.Book l.bonds) (kept_of l.records) l.terms l.pledge l.i (drop l.i l.rows))

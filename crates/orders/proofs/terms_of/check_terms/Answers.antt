@@ -1,15 +1,10 @@
-use Rattle.std.proofs.Common.{ℕ, ◌+◌, ap, ◌∙◌}
+use Rattle.std.proofs.Common.{◌+◌}
 use Rattle.std.proofs.lemmas.Result.{err_from_is_err_and}
 use Rattle.records.specs.Kept.{kept_of}
 use Rattle.terms.specs.Table.{first_of}
-use Rattle.terms.proofs.Rows.{was_accepted, accepts, first_after, refused_before, refused_after}
-use Rattle.terms.specs.declared.order.Order.{Order}
-use Rattle.orders.specs.Terms.{lent_rules, time_rules, terms_rules, terms_of}
-use Rattle.orders.specs.declared.terms_of.Terms.{Terms}
+use Rattle.terms.proofs.Rows.{was_accepted, refused_before, refused_after}
+use Rattle.orders.specs.Terms.{lent_rules, time_rules, terms_of}
 use Rattle.orders.proofs.terms_of.check_terms.Goals as goal
-
-abbrev due_on : Order → ℕ → Terms
-due_on o due = record { borrower = o.borrower; bond = o.bond; face = o.face; term = o.term; due = due }
 
 pub returns-in_err-check_lent : goal.returns-in_err-check_lent
 returns-in_err-check_lent c =
@@ -25,12 +20,3 @@ returns-in_err-due c =
     let o = c.args.order.now in
     let lent = was_accepted (first_of (lent_rules k o)) tt tt c.in_ok-check_lent.ensures in
     rw (p.1, p.2) (refused_after (lent_rules k o) (time_rules k o) (k.time.day + o.term) (terms_of k o) _ lent.0 c.in_err-due.ensures.answer)
-
-pub returns : goal.returns
-returns c =
-    let k = kept_of c.args.records.now in
-    let o = c.args.order.now in
-    let lent = was_accepted (first_of (lent_rules k o)) tt tt c.in_ok-check_lent.ensures in
-    let time = was_accepted (first_of (time_rules k o)) (k.time.day + o.term) c.in_ok-due.due c.in_ok-due.ensures.answer in
-    let same = ap (λ (due : ℕ). due_on o due) time.1 in
-    accepts (first_of (terms_rules k o)) (terms_of k o) _ (first_after (lent_rules k o) (time_rules k o) lent.0 ∙ time.0) same

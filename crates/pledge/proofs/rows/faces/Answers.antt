@@ -1,12 +1,9 @@
-use Rattle.std.proofs.Common.{◌≡◌, ltb, sum_by, ap, ◌∙◌, arith}
-use Rattle.pledge.specs.Rows.{row_face}
-use Rattle.pledge.proofs.Faces.{sum_four, some_face}
+use Rattle.std.proofs.Common.{arith, rules, tests}
+use Rattle.std.proofs.lemmas.Iterator.{YieldsList-from_slice}
+use Rattle.std.proofs.lemmas.Iterator.Adapters.{at_most_from_yields_List, fits_from_length}
 use Rattle.pledge.proofs.rows.faces.Goals as goal
 
-pub returns : goal.returns
-returns c =
-    let rows = c.args.rows.now in
-    let face = row_face c.args.bond in
-    let all = sum_four face rows (record { bond = 0; face = 0 }) c.told-rows in
-    let sum : c.total.result ≡ sum_by face rows = omega arith in
-    record { sum = sum; some = ap (ltb 0) sum ∙ some_face c.args.bond rows }
+-- four faces of a u32 each
+pub sum-requires-clause-fits : goal.sum-requires-clause-fits
+sum-requires-clause-fits c =
+    fits_from_length _ _ 4 _ (at_most_from_yields_List (YieldsList-from_slice c.args.rows.now cc) (omega arith)) c.map.ensures.closure (omega arith) (λ x r q k. search (rules, tests))

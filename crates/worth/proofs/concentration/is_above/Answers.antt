@@ -3,5 +3,5 @@ use Rattle.worth.proofs.concentration.is_above.Goals as goal
 
 pub overflow_mul-result-2 : goal.overflow_mul-result-2
 overflow_mul-result-2 c =
-    let limit : c.args.limit ≤ 65535 = omega arith in
+    let limit : c.from.result ≤ 65535 = omega arith in
     omega (arith, mul-le-mul_right c.args.total limit)

@@ -5,7 +5,8 @@ use Rattle.pledge.proofs.rows.Pledge.swap_row.Goals as goal
 
 pub returns : goal.returns
 returns c =
-    let a = c.args in
-    let worth = row_worth a.pricing.now.bonds.now a.pricing.now.multiplier in
-    let all = others_and worth a.self.now.rows a.i a.new (omega arith) in
-    in_place worth a.self.now a.i _ a.needed a.later a.new (record { bond = 0; face = 0 }) _ _ (cc) c.try_row.ensures
+    let p = c.args.self.now in
+    let e = c.args.exchange.now in
+    let worth = row_worth e.pricing.bonds.now e.pricing.multiplier in
+    let all = others_and worth p.rows e.row e.new (omega arith) in
+    in_place worth p e.row _ e.needed e.later e.new (record { bond = 0; face = 0 }) _ _ (cc) c.try_on.ensures
