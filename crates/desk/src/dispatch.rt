@@ -4,7 +4,7 @@ use crate::desk::Desk;
 use book::Book;
 use draft::Draft;
 use netting::{NettingBonds, NettingCash};
-use pool::Pool;
+use pool::{Parts, Pool};
 use records::Figures;
 use script::{BookKind, Opening, RuleKind};
 use share::{EvenRule, FirstRule};
@@ -53,12 +53,16 @@ impl<'d, 'a, 'o> Opener<'d, 'a, 'o> {
     fn with_books<B: Book + Drop, C: Book + Drop>(self, bonds: B, cash: C) -> Result<(), Stop<'a>> {
         let draft = self.draft;
         match draft.rule {
-            RuleKind::First => self
-                .desk
-                .run(Pool::open(bonds, cash, FirstRule, &self.figures)),
-            RuleKind::Even => self
-                .desk
-                .run(Pool::open(bonds, cash, EvenRule, &self.figures)),
+            RuleKind::First => {
+                let rule = FirstRule;
+                let parts = Parts { bonds, cash, rule };
+                self.desk.run(Pool::open(parts, &self.figures))
+            }
+            RuleKind::Even => {
+                let rule = EvenRule;
+                let parts = Parts { bonds, cash, rule };
+                self.desk.run(Pool::open(parts, &self.figures))
+            }
         }
     }
 }

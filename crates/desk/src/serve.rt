@@ -3,7 +3,7 @@ use crate::damage::Stop;
 use crate::desk::{Desk, Output, opening_after_open};
 use answers::Answer;
 use book::Book;
-use life::{Outcome, Stepped, step};
+use life::{CallError, Stepped, step};
 use pool::{Day, OpenDay, Pool, Unopened};
 use script::Item;
 use share::SharingRule;
@@ -56,12 +56,12 @@ impl<'a, 'o> Desk<'a, 'o> {
 }
 
 // What the desk writes of a call: one that was not made names the kind of day that the desk still holds.
-fn answer_to(outcome: Outcome, day: &Day) -> Answer {
+fn answer_to(outcome: Result<(), CallError>, day: &Day) -> Answer {
     match (outcome, day) {
-        (Outcome::Accepted, _) => Answer::Accepted,
-        (Outcome::Refused(refusal), _) => Answer::Refused(refusal),
-        (Outcome::NotMade, Day::Open(_)) => Answer::DayIsOpen,
-        (Outcome::NotMade, Day::Shut(_)) => Answer::DayIsShut,
+        (Ok(()), _) => Answer::Accepted,
+        (Err(CallError::Refused(refusal)), _) => Answer::Refused(refusal),
+        (Err(CallError::NotMade), Day::Open(_)) => Answer::DayIsOpen,
+        (Err(CallError::NotMade), Day::Shut(_)) => Answer::DayIsShut,
     }
 }
 

@@ -3,6 +3,7 @@ use crate::sample::{balances, figures, stock};
 use book::Book;
 use life::live;
 use netting::Netting;
+use pool::Parts;
 use share::{EvenRule, FirstRule, SharingRule};
 use standing::Standing;
 use std::process::Abort;
@@ -38,7 +39,7 @@ fn ends_alike<B: Book + Drop, C: Book + Drop, S: SharingRule + Drop>(
         first,
         first,
     ];
-    let Ok(lived) = live(bonds, cash, rule, &figures(), &calls) else {
+    let Ok(lived) = live(Parts { bonds, cash, rule }, &figures(), &calls) else {
         return Err(Fail::new("not opened"));
     };
     assert_eq!(rt; lived.pool.bond_amount(32), Some(1_000_000));

@@ -1,7 +1,7 @@
 //! Openings that are refused: each figure at its spot, and the books before the figures.
 use crate::sample::{balances, figures, stock, told};
 use netting::Netting;
-use pool::Pool;
+use pool::{Parts, Pool};
 use records::{Figures, Records};
 use share::FirstRule;
 use standing::Standing;
@@ -53,8 +53,12 @@ fn an_amount_above_the_largest_is_refused_before_a_row(rt: HostRuntime) -> Resul
     amounts[1023] = 10_000_000_000_001;
     let mut bad = figures();
     bad.accounts[3].right = 4;
-    let (bonds, cash) = (Netting::new(amounts), Standing::new(balances()));
-    let Err(unopened) = Pool::open(bonds, cash, FirstRule, &bad) else {
+    let parts = Parts {
+        bonds: Netting::new(amounts),
+        cash: Standing::new(balances()),
+        rule: FirstRule,
+    };
+    let Err(unopened) = Pool::open(parts, &bad) else {
         return Err(Fail::new("opened"));
     };
     assert_eq!(rt; unopened.refusal.spot, 0);
@@ -63,8 +67,12 @@ fn an_amount_above_the_largest_is_refused_before_a_row(rt: HostRuntime) -> Resul
 
 #[test]
 fn a_book_of_another_size_is_refused(rt: HostRuntime) -> Result<(), Fail> {
-    let (bonds, cash) = (Standing::new(balances()), Standing::new(balances()));
-    let Err(unopened) = Pool::open(bonds, cash, FirstRule, &figures()) else {
+    let parts = Parts {
+        bonds: Standing::new(balances()),
+        cash: Standing::new(balances()),
+        rule: FirstRule,
+    };
+    let Err(unopened) = Pool::open(parts, &figures()) else {
         return Err(Fail::new("opened"));
     };
     assert_eq!(rt; unopened.refusal.cause.code(), 20);
