@@ -24,9 +24,7 @@ pub fn has_room<B: Book>(book: &B, place: usize, n: u64) -> bool
 pub fn is_fit<B: Book>(book: &B, places: usize) -> bool
     ensures { result ≡ fits places (ledger B.Book book.now) }
 {
-    B::PLACES == places
-        && B::LARGEST == LARGEST_AMOUNT
-        && has_none_above(book, LARGEST_AMOUNT)
+    B::PLACES == places && B::LARGEST == LARGEST_AMOUNT && has_none_above(book, LARGEST_AMOUNT)
 }
 
 // Whether the sum is at most `most`; the sum itself is never made, since it may not fit.

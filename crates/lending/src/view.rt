@@ -18,6 +18,6 @@ impl<'a, B: Book> Model for View<'a, B> {
     ghost Value = { View };
 
     ghost use Rattle.book.specs.Ledgers.{ledger};
-    
+
     ghost view = { λ p. record { bonds = ledger B.Book p.bonds.now; records = p.records.now; loans = p.loans.now } };
 }

@@ -25,7 +25,12 @@ impl<B: Book, C: Book, S: SharingRule> Pool<B, C, S> {
     ) -> Result<(), Refusal>
         ensures { Obeys (state_of B.Book C.Book S.SharingRule self.old) day.now.number (Call.Quota account bond face) tt result (state_of B.Book C.Book S.SharingRule self.new) }
     {
-        self.make(day.number, Call::Quota { account, bond, face })
+        let call = Call::Quota {
+            account,
+            bond,
+            face,
+        };
+        self.make(day.number, call)
     }
 
     /// Sets how a member lends: 0 by presets, 1 its whole available face.
@@ -53,7 +58,13 @@ impl<B: Book, C: Book, S: SharingRule> Pool<B, C, S> {
     ) -> Result<(), Refusal>
         ensures { Obeys (state_of B.Book C.Book S.SharingRule self.old) day.now.number (Call.Deliver from to bond face) tt result (state_of B.Book C.Book S.SharingRule self.new) }
     {
-        self.make(day.number, Call::Deliver { from, to, bond, face })
+        let call = Call::Deliver {
+            from,
+            to,
+            bond,
+            face,
+        };
+        self.make(day.number, call)
     }
 
     /// Moves cash, in fen, from one member to another.
@@ -106,7 +117,15 @@ impl<B: Book, C: Book, S: SharingRule> Pool<B, C, S> {
                 bond,
                 face,
             } => {
-                transfers::deliver(&mut self.parts.bonds, &self.records, today, from, to, bond, face)
+                transfers::deliver(
+                    &mut self.parts.bonds,
+                    &self.records,
+                    today,
+                    from,
+                    to,
+                    bond,
+                    face,
+                )
             }
             Call::Remit { from, to, fen } => {
                 transfers::remit(&mut self.parts.cash, &self.records, today, from, to, fen)
@@ -117,12 +136,7 @@ impl<B: Book, C: Book, S: SharingRule> Pool<B, C, S> {
     }
 
     // The proof of a next that passes a refusal on stands in a file of its own.
-    fn next_on(
-        &mut self,
-        shut: ShutDay,
-        day: u64,
-        r001: u64,
-    ) -> Result<OpenDay, (Refusal, ShutDay)>
+    fn next_on(&mut self, shut: ShutDay, day: u64, r001: u64) -> Result<OpenDay, (Refusal, ShutDay)>
         ensures { PassesOn (state_of B.Book C.Book S.SharingRule self.old) shut.number (Call.Next day r001) shut (record { number = day }) result (state_of B.Book C.Book S.SharingRule self.new) }
     {
         match self.make(shut.number, Call::Next { day, r001 }) {

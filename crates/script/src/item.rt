@@ -1,5 +1,6 @@
 //! The items of a script, one to a line.
-ghost use Rattle.script.specs.Kinds.{BookRead, RuleRead};
+ghost use Rattle.std.specs.Prelude.{◌≡◌};
+ghost use Rattle.script.specs.Kinds.{book_kind, rule_kind};
 
 use crate::fault::Fault;
 use std::str::FromStr;
@@ -16,7 +17,7 @@ pub enum BookKind {
 impl FromStr for BookKind {
     type Err = Fault;
 
-    ghost from_str_gives = { BookRead };
+    ghost from_str_gives = { λ word r. r ≡ book_kind word };
 
     fn from_str(word: &str) -> Result<BookKind, Fault> {
         match word {
@@ -37,7 +38,7 @@ pub enum RuleKind {
 impl FromStr for RuleKind {
     type Err = Fault;
 
-    ghost from_str_gives = { RuleRead };
+    ghost from_str_gives = { λ word r. r ≡ rule_kind word };
 
     fn from_str(word: &str) -> Result<RuleKind, Fault> {
         match word {

@@ -1,6 +1,6 @@
 //! A refusal of each number that the calls of a day can give, with its spot and layer.
-use crate::sample::{bonds, cash, figures, told};
-use pool::{OpenDay, Parts, Pool};
+use crate::sample::{figures, parts, told};
+use pool::{OpenDay, Pool};
 use share::EvenRule;
 use standing::{StandingBonds, StandingCash};
 use std::test::Fail;
@@ -14,12 +14,7 @@ fn opened() -> Result<(Sample, OpenDay), Fail> {
 fn opened_on(day: u64) -> Result<(Sample, OpenDay), Fail> {
     let mut figures = figures();
     figures.day = day;
-    let parts = Parts {
-        bonds: bonds(),
-        cash: cash(),
-        rule: EvenRule,
-    };
-    Pool::open(parts, &figures).map_err(|_| Fail::new("not opened"))
+    Pool::open(parts(), &figures).map_err(|_| Fail::new("not opened"))
 }
 
 #[test]

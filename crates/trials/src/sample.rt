@@ -1,6 +1,8 @@
 //! A pool to try calls on: members 1 to 4, bonds 0 and 1.
+use pool::Parts;
 use records::Figures;
-use standing::{StandingBonds, StandingCash};
+use share::EvenRule;
+use standing::{Standing, StandingBonds, StandingCash};
 use tables::{AccountFigures, BondFigures};
 use terms::Refusal;
 
@@ -60,10 +62,11 @@ pub(crate) fn balances() -> [u64; 32] {
     fen
 }
 
-pub(crate) fn bonds() -> StandingBonds {
-    StandingBonds::new(stock())
-}
-
-pub(crate) fn cash() -> StandingCash {
-    StandingCash::new(balances())
+/// A pool over the standing books, which shares evenly.
+pub(crate) fn parts() -> Parts<StandingBonds, StandingCash, EvenRule> {
+    Parts {
+        bonds: Standing::new(stock()),
+        cash: Standing::new(balances()),
+        rule: EvenRule,
+    }
 }
