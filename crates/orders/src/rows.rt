@@ -54,7 +54,7 @@ pub fn check_rows<B: Book>(
 ) -> Result<Pledge, Refusal>
     ensures { result ≡ answered (first_of (rows_rules (ledger B.Book bonds.now) records.now terms.now unpledged 0 (rows_of order.now))) (pledge_of order.now) }
 {
-    pledge_of(bonds, records, terms, front(&order.rows, order.count))
+    pledge_of(bonds, records, terms, order.count, &order.rows)
 }
 
 // The first `count` rows, the only ones that are looked at.
@@ -66,18 +66,19 @@ fn front(rows: &[OrderRow; 4], count: u64) -> &[OrderRow]
     &rows[..rows.len().min(count as usize)]
 }
 
-// The pledge of these rows, or the first of them that is refused.
+// The pledge of the first `count` rows, or the first of them that is refused.
 fn pledge_of<B: Book>(
     bonds: &B,
     records: &Records,
     terms: &Terms,
-    rows: &[OrderRow],
+    count: u64,
+    rows: &[OrderRow; 4],
 ) -> Result<Pledge, Refusal>
-    requires { length rows.now ≤ 4 }
-    ensures { result ≡ outcome (ledger B.Book bonds.now) records.now terms.now unpledged 0 rows.now }
+    ensures { result ≡ outcome (ledger B.Book bonds.now) records.now terms.now unpledged 0 (take count rows.now) }
 {
+    let used = front(rows, count);
     let mut pledge = Pledge::default();
-    for (i, &row) in rows.iter().enumerate() {
+    for (i, &row) in used.iter().enumerate() {
         pledge.rows[i] = check_row(bonds, records, terms, &pledge, i as u64, row)?;
     }
     Ok(pledge)

@@ -9,13 +9,13 @@ pub returns-in_err-pledge : goal.returns-in_err-pledge
 returns-in_err-pledge g c =
     let p = err_from_is_err_and c.from_residual.result c.from_residual.ensures.1 in
     let a = c.args in
-    let all = outcome (ledger g.B.Book a.bonds.now) a.records.now a.terms.now unpledged 0 a.rows.now in
-    rw (p.1, p.2) (row_refused (ledger g.B.Book a.bonds.now) a.records.now a.terms.now a.rows.now all c.loop-i.pledge c.loop-i.i c.loop-i.invariant.1 _ (record { bond = 0; face = 0 }) _ (omega arith) refl c.in_err-pledge.ensures)
+    let all = outcome (ledger g.B.Book a.bonds.now) a.records.now a.terms.now unpledged 0 c.front-used.result.now in
+    rw (p.1, p.2, ← c.front-used.ensures.rows) (row_refused (ledger g.B.Book a.bonds.now) a.records.now a.terms.now c.front-used.result.now all c.loop-i.pledge c.loop-i.i c.loop-i.invariant.1 _ (record { bond = 0; face = 0 }) _ (omega arith) refl c.in_err-pledge.ensures)
 
 pub loop-i-preserved : goal.loop-i-preserved
 loop-i-preserved g c =
     let a = c.args in
-    let all = outcome (ledger g.B.Book a.bonds.now) a.records.now a.terms.now unpledged 0 a.rows.now in (
+    let all = outcome (ledger g.B.Book a.bonds.now) a.records.now a.terms.now unpledged 0 c.front-used.result.now in (
       length-set _ _ _ ∙ c.loop-i.invariant.0,
-      row_pledged (ledger g.B.Book a.bonds.now) a.records.now a.terms.now a.rows.now all c.loop-i.pledge c.loop-i.i c.loop-i.invariant.1 _ (record { bond = 0; face = 0 }) _ (omega arith) refl c.in_ok-pledge.ensures,
+      row_pledged (ledger g.B.Book a.bonds.now) a.records.now a.terms.now c.front-used.result.now all c.loop-i.pledge c.loop-i.i c.loop-i.invariant.1 _ (record { bond = 0; face = 0 }) _ (omega arith) refl c.in_ok-pledge.ensures,
     )
