@@ -7,7 +7,7 @@ use Rattle.terms.specs.declared.refusal.Refusal.{Refusal}
 use Rattle.terms.specs.declared.refusal.Cause.TheVariants as cause
 use Rattle.book.specs.Places.{available, pledged}
 use Rattle.moves.specs.Columns.{available_column}
-use Rattle.moves.specs.Many.{Move, after_moves, moves_by}
+use Rattle.moves.specs.Many.{Move, after_moves, moves_by, pledged_by}
 use Rattle.moves.specs.declared.many.Way.TheVariants.{Into}
 use Rattle.records.specs.Times.{not_open}
 use Rattle.pledge.specs.declared.rows.PledgeRow.{PledgeRow}
@@ -35,8 +35,7 @@ loan_of rule v o =
 
 -- a row moves from what the borrower has available to what it has pledged
 abbrev pub row_move : ℕ → PledgeRow → Move
-row_move borrower row =
-    record { source = available borrower row.bond; target = pledged borrower row.bond; amount = row.face }
+row_move borrower row = pledged_by borrower row.bond row.face
 
 abbrev pub row_moves : ℕ → List PledgeRow → List Move
 row_moves borrower [] = []

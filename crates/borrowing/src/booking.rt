@@ -1,29 +1,20 @@
 //! An accepted loan is booked: its rows are pledged, its shares move, and it is written down.
 ghost use Rattle.std.specs.Prelude.{◌≡◌};
-ghost use Rattle.moves.specs.Many.{after_move, after_moves};
-ghost use Rattle.borrowing.specs.Borrows.{row_move, row_moves, loan_moves};
+ghost use Rattle.moves.specs.Many.{after_moves};
+ghost use Rattle.borrowing.specs.Borrows.{row_moves, loan_moves};
 ghost use Rattle.loan.specs.Kept.{row_of};
 
-use book::{Book, available_place, pledged_place};
+use book::{Book, available_place};
 use loan::Loan;
-use moves::{Column, Way, move_each};
+use moves::{Column, Way, move_each, pledge_face};
 use pledge::PledgeRow;
-
-// Moves a row from what the borrower has available to what it has pledged.
-fn pledge_row<B: Book>(bonds: &mut B, borrower: u8, row: PledgeRow)
-    ensures { B.Book.amounts bonds.new ≡ after_move B.Book.LARGEST (B.Book.amounts bonds.old) (row_move borrower row) }
-{
-    let source = available_place(borrower, row.bond);
-    let target = pledged_place(borrower, row.bond);
-    let _ = bonds.shift(source, target, u64::from(row.face));
-}
 
 #[tactic(auto, using(crate::proofs::Moved::row_moved, crate::proofs::Moved::rows_moved))]
 fn pledge_rows<B: Book>(bonds: &mut B, borrower: u8, rows: &[PledgeRow; 4])
     ensures { B.Book.amounts bonds.new ≡ after_moves B.Book.LARGEST (B.Book.amounts bonds.old) (row_moves borrower rows.now) }
 {
     for &row in rows {
-        pledge_row(bonds, borrower, row);
+        pledge_face(bonds, borrower, row.bond, row.face);
     }
 }
 

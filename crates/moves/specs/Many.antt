@@ -2,6 +2,7 @@
 use Rattle.std.specs.Prelude.{ℕ, suc, ◌+◌, cond, List, [], ◌∷◌, ◌==◌}
 use Rattle.terms.specs.Table.{settled}
 use Rattle.book.specs.Moves.{refusal, moved}
+use Rattle.book.specs.Places.{available, pledged}
 use Rattle.moves.specs.Columns.{place}
 use Rattle.moves.specs.declared.column.Column.{Column}
 use Rattle.moves.specs.declared.many.Way.{Way}
@@ -39,3 +40,10 @@ move_by (OutOf source) place n = record { source = source; target = place; amoun
 abbrev pub moves_by : Column → Way → ℕ → List ℕ → List Move
 moves_by c way account [] = []
 moves_by c way account (n ∷ ns) = move_by way (place c account) n ∷ moves_by c way (suc account) ns
+
+-- a face of a bond that an account pledges, and one that is freed
+abbrev pub pledged_by : ℕ → ℕ → ℕ → Move
+pledged_by account bond face = record { source = available account bond; target = pledged account bond; amount = face }
+
+abbrev pub freed_by : ℕ → ℕ → ℕ → Move
+freed_by account bond face = record { source = pledged account bond; target = available account bond; amount = face }

@@ -9,7 +9,7 @@ use Rattle.terms.specs.declared.refusal.Layer.TheVariants as layer
 use Rattle.book.specs.Ledgers.{Ledger}
 use Rattle.book.specs.Moves.{room}
 use Rattle.book.specs.Places.{available, pledged}
-use Rattle.moves.specs.Many.{Move, after_moves}
+use Rattle.moves.specs.Many.{Move, after_moves, pledged_by, freed_by}
 use Rattle.records.specs.Times.{not_open}
 use Rattle.pledge.specs.Rows.{with_row}
 use Rattle.pledge.specs.declared.rows.PledgeRow.{PledgeRow}
@@ -73,9 +73,7 @@ swap_rules v day n i new =
 -- the new row is pledged, and the old one is freed
 abbrev pub swap_moves : LoanRow → ℕ → OrderRow → List Move
 swap_moves l i new =
-    record { source = available l.borrower new.bond; target = pledged l.borrower new.bond; amount = new.face }
-    ∷ record { source = pledged l.borrower (row_at l i).bond; target = available l.borrower (row_at l i).bond; amount = (row_at l i).face }
-    ∷ []
+    pledged_by l.borrower new.bond new.face ∷ freed_by l.borrower (row_at l i).bond (row_at l i).face ∷ []
 
 -- what the bond book and the loans are after the swap
 abbrev pub exchanged : View → ℕ → ℕ → OrderRow → List ℕ × Loans

@@ -7,9 +7,10 @@ ghost use Rattle.register.specs.Loans.{loan_at, no_such_loan};
 ghost use Rattle.swapping.specs.Swaps.{swap_moves, SwappedIn, Swapped};
 
 use crate::judging::{check_loan, find_later, row_of, terms_in};
-use book::{Book, available_place, pledged_place};
+use book::Book;
 use lending::View;
 use loan::LoanRow;
+use moves::{free_face, pledge_face};
 use orders::check_row;
 use pledge::{Exchange, PledgeRow, Pricing};
 use records::Records;
@@ -84,10 +85,6 @@ fn move_rows<B: Book>(bonds: &mut B, loan: &LoanRow, i: u64, new: PledgeRow)
 {
     let old = row_of(&loan.pledge.rows, i);
     let borrower = loan.borrower;
-    let source = available_place(borrower, new.bond);
-    let target = pledged_place(borrower, new.bond);
-    let _ = bonds.shift(source, target, u64::from(new.face));
-    let freed = pledged_place(borrower, old.bond);
-    let target = available_place(borrower, old.bond);
-    let _ = bonds.shift(freed, target, u64::from(old.face));
+    pledge_face(bonds, borrower, new.bond, new.face);
+    free_face(bonds, borrower, old.bond, old.face);
 }
