@@ -5,7 +5,7 @@ use Rattle.terms.specs.Table.{first_of}
 use Rattle.terms.specs.declared.order.Order.{Order}
 use Rattle.terms.specs.declared.refusal.Refusal.{Refusal}
 use Rattle.terms.specs.declared.refusal.Cause.TheVariants as cause
-use Rattle.book.specs.Places.{available, pledged}
+use Rattle.book.specs.Places.{available}
 use Rattle.moves.specs.Columns.{available_column}
 use Rattle.moves.specs.Many.{Move, after_moves, moves_by, pledged_by}
 use Rattle.moves.specs.declared.many.Way.TheVariants.{Into}

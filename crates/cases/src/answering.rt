@@ -1,7 +1,7 @@
 //! The answers as they are written.
 use answers::Answer;
 use std::test::Fail;
-use terms::{Cause, Layer, Refusal};
+use terms::{Cause, Layer};
 
 #[test]
 fn answers(rt: HostRuntime) -> Result<(), Fail> {

@@ -6,13 +6,13 @@ use Rattle.terms.specs.declared.call.Call.{Call}
 use Rattle.terms.specs.declared.call.Call.TheVariants.{Clock, Quota, Mode, Price, Deliver, Remit, Shut, Next}
 use Rattle.pool.specs.State.{State}
 use Rattle.pool.specs.Rules.{verdict, next}
-use Rattle.pool.specs.Promises.{Obeys, handed}
+use Rattle.pool.specs.Promises.{handed}
 use Rattle.pool.specs.declared.days.Day.{Day}
 use Rattle.pool.specs.declared.days.Day.TheVariants as held
 use Rattle.pool.specs.declared.days.OpenDay.{OpenDay}
-use Rattle.life.specs.Steps.{outcome_of, by_verdict, within_day, made, outcome_made, number_of, takes, day_by, stepped, after_step}
+use Rattle.life.specs.Steps.{outcome_of, by_verdict, made, outcome_made, number_of, takes, day_by, stepped, after_step}
 use Rattle.life.specs.declared.steps.CallError.{CallError}
-use Rattle.life.specs.declared.steps.CallError.TheVariants.{Refused, NotMade}
+use Rattle.life.specs.declared.steps.CallError.TheVariants.{Refused}
 use Rattle.life.specs.declared.steps.Stepped.{Stepped}
 
 abbrev at_day : Day → Result Unit CallError → Stepped

@@ -30,6 +30,7 @@ pub fn live<B: Book, C: Book, S: SharingRule>(
     live_on(parts, figures, calls)
 }
 
+// Not joined with `live`: the proof needs a file, and a bug in the public call is to be refused at its own line.
 fn live_on<B: Book, C: Book, S: SharingRule>(
     parts: Parts<B, C, S>,
     figures: &Figures,

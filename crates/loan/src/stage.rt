@@ -5,7 +5,7 @@ ghost use Rattle.loan.specs.Stages.{is_out, is_unfunded, answered_in, lapsed};
 /// What is asked of the lenders. `answered` has one bit for each account.
 #[derive(Clone, Copy, Debug, PartialEq, Eq)]
 pub enum Matter {
-    /// Nothing is asked.
+    /// Nothing is asked. A case and no `Option`, so that one match on stage and matter has every case.
     Quiet,
     /// To extend the loan by a term.
     Roll { term: u8, answered: u32 },

@@ -5,7 +5,8 @@ ghost use Rattle.book.specs.Moves.{largest_amount};
 use crate::entry::Entry;
 use book::{Book, LARGEST_AMOUNT, Move, MoveRefusal};
 
-/// A row of places, each with its opening amount and its net change since.
+/// A row of places, each with its opening amount and its net change since. It has a ghost field and no model: a model's
+/// value would be a bare list, of which the book's law on the count of places is not true.
 #[derive(Drop)]
 pub struct Netting<const N: usize> {
     places: [Entry; N],

@@ -6,7 +6,8 @@ use figures::values::row_value;
 use sums::total::{AmountFor, total};
 use tables::Bond;
 
-/// One row: a face of one bond. An unused row is of face 0 and bond 0.
+/// One row: a face of one bond. An unused row is of face 0 and bond 0, and no `None`: it counts nothing in any total, so no
+/// total has to test for it.
 #[derive(Clone, Copy, Debug, Default, PartialEq, Eq)]
 pub struct PledgeRow {
     pub bond: u8,

@@ -1,5 +1,5 @@
 -- A call whose answer and whose table are as the rules say is obeyed, and every life goes on by it.
-use Rattle.std.proofs.Common.{◌≡◌, ℕ, List, Some, None, Ok, Err, Option, Result, sym, refl, ap, ◌∙◌, subst}
+use Rattle.std.proofs.Common.{◌≡◌, ℕ, List, Some, None, Err, Option, Result, sym, refl, ap, ◌∙◌, subst}
 use Rattle.terms.specs.Table.{answered, settled}
 use Rattle.terms.specs.Refusals.{refused, Settles, WellNamed}
 use Rattle.terms.specs.declared.refusal.Refusal.{Refusal}

@@ -135,7 +135,7 @@ impl<B: Book, C: Book, S: SharingRule> Pool<B, C, S> {
         }
     }
 
-    // The proof of a next that passes a refusal on stands in a file of its own.
+    // Not joined with `next`: the proof needs a file, and a bug in the public call is to be refused at its own line.
     fn next_on(&mut self, shut: ShutDay, day: u64, r001: u64) -> Result<OpenDay, (Refusal, ShutDay)>
         ensures { PassesOn (state_of B.Book C.Book S.SharingRule self.old) shut.number (Call.Next day r001) shut (record { number = day }) result (state_of B.Book C.Book S.SharingRule self.new) }
     {

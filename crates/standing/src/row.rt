@@ -4,7 +4,8 @@ ghost use Rattle.book.specs.Moves.{largest_amount};
 
 use book::{Book, LARGEST_AMOUNT, Move, MoveRefusal};
 
-/// A row of places, each with its amount.
+/// A row of places, each with its amount. It has a ghost field and no model: a model's value would be a bare list, of
+/// which the book's law on the count of places is not true.
 #[derive(Drop)]
 pub struct Standing<const N: usize> {
     amounts: [u64; N],

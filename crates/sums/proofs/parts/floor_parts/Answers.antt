@@ -1,7 +1,7 @@
-use Rattle.std.proofs.Common.{◌≡◌, map, ap, ◌∙◌, arith, length-set}
+use Rattle.std.proofs.Common.{◌≡◌, map, ap, ◌∙◌, arith}
 use Rattle.sums.specs.Parts.{floor_part, floor_parts}
-use Rattle.sums.proofs.Fronts.{mapped_more, mapped_all}
-use Rattle.sums.proofs.Parted.{floor_below, floor_parts_le}
+use Rattle.sums.proofs.Fronts.{mapped_all}
+use Rattle.sums.proofs.Parted.{floor_parts_le}
 use Rattle.sums.proofs.parts.floor_parts.Goals as goal
 
 pub returns : goal.returns

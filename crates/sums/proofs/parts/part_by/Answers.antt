@@ -1,7 +1,7 @@
-use Rattle.std.proofs.Common.{◌≡◌, ◌<◌, length, get_or, sum, sym, refl, ap, ◌∙◌, arith, length-set}
+use Rattle.std.proofs.Common.{◌≡◌, ◌<◌, length, sum, sym, refl, ap, ◌∙◌, arith}
 use Rattle.sums.specs.Parts.{topped, parted}
 use Rattle.sums.proofs.Fronts.{front_all}
-use Rattle.sums.proofs.Parted.{parted_none, parted_sum, floor_parts_none, floor_parts_length, floor_is, part_below, topped_start, topped_more}
+use Rattle.sums.proofs.Parted.{parted_none, parted_sum, floor_parts_none, floor_parts_length, topped_start}
 use Rattle.sums.proofs.parts.part_by.Goals as goal
 
 pub returns-then-all-eq0 : goal.returns-then-all-eq0
