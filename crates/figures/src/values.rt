@@ -14,7 +14,7 @@ pub fn row_value(face: u32, price: u16, discount: u16, multiplier: u16) -> u64
     face as u64 * price as u64 * discount as u64 / (10_000 * multiplier as u64)
 }
 
-/// A grade's multiplier; 0 past grade 7.
+/// A grade's multiplier; 0 past grade 7, and no `None`, since no caller has such a grade.
 pub fn multiplier(grade: u8) -> u16
     ensures { result ≡ multiplier_of grade }
 {

@@ -50,7 +50,8 @@ pub(crate) fn check_loan(records: &Records, loan: &LoanRow, i: u64) -> Result<()
     Ok(())
 }
 
-// The rules after the value: the pledge limit, what the old row's place holds, and room for both rows.
+// The verdict of the rules after the value, an Option as of every rule table: the pledge limit, what the old row's place
+// holds, and room for both rows.
 pub(crate) fn find_later<B: Book>(
     view: &View<B>,
     loan: &LoanRow,

@@ -87,7 +87,8 @@ pub struct Account {
     pub right: Right,
     pub grade: u8,
     pub mode: Mode,
-    /// For each bond the face up to which the account lends by presets; 0 where none is set.
+    /// For each bond the face up to which the account lends by presets; 0 where none is set, since an account without a
+    /// preset lends as one with a preset of 0 does.
     pub presets: [u64; 16],
 }
 

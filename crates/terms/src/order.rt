@@ -12,7 +12,8 @@ pub struct OrderRow {
     pub face: u64,
 }
 
-/// An order to borrow; any numbers may stand here. Rows past the count are not looked at.
+/// An order to borrow; any numbers may stand here, since whoever sends one may send anything. Rows past the count are not
+/// looked at; the count stands beside an array, and no slice, since calls are copied and own what they carry.
 #[derive(Clone, Copy)]
 pub struct Order {
     pub kind: u64,

@@ -110,7 +110,8 @@ impl Layer {
 #[derive(Clone, Copy, Debug, PartialEq, Eq)]
 pub struct Refusal {
     pub cause: Cause,
-    /// The account, row or place of a list that the cause speaks of; 0 where there is none.
+    /// The account, row or place of a list that the cause speaks of; 0 where there is none, since members are told a number
+    /// in every refusal.
     pub spot: u64,
     pub layer: Layer,
 }
