@@ -1,4 +1,5 @@
-//! The places of an account in a book of bonds: for each of 16 bonds an available and a pledged one.
+//! The places of an account in a book of bonds: for each of 16 bonds an available and a pledged one. A book is one row of
+//! numbered places by the rules of a pool, so a place is a number.
 ghost use Rattle.std.specs.Prelude.{◌≡◌};
 ghost use Rattle.book.specs.Places.{available, pledged};
 

@@ -31,6 +31,7 @@ pub fn borrow<B: Book, S: SharingRule>(
     borrow_on(bonds, rule, records, loans, day, order)
 }
 
+// The bond book and the loans are written here, so they are passed by themselves and in no view of what is read.
 // Everything is checked before anything is booked, also that a loan row is unused, so the loan is always added.
 // Not joined with `borrow`: the arm that `?` leaves needs a proof file, and a bug in the public call is to be
 // refused at its own line.

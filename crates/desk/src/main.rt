@@ -34,6 +34,9 @@ fn main(rt: HostRuntime) -> io::Result<ExitCode> {
             eprintln!(rt; "{damage}")?;
             Ok(ExitCode::FAILURE)
         }
-        Err(Stop::Unwritten(error)) => Err(error),
+        Err(Stop::Unwritten(error)) => {
+            out.flush()?;
+            Err(error)
+        }
     }
 }

@@ -65,8 +65,8 @@ fn answer_to(outcome: Result<(), CallError>, day: &Day) -> Answer {
     }
 }
 
-// Every amount of the books that is not 0, in rising order of place. Two loops, since each book is asked by a call of
-// its own and told by an answer of its own.
+// Every amount of the books that is not 0, in rising order of place. Two loops over the numbers of places, since a place
+// is all that a book is asked by, and each book is asked by a call of its own and told by an answer of its own.
 fn write_amounts<B: Book, C: Book, S: SharingRule>(
     pool: &Pool<B, C, S>,
     out: &mut Output,

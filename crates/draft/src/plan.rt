@@ -18,12 +18,9 @@ pub struct Draft {
 }
 
 impl Model for Draft {
-    ghost use Rattle.std.specs.Prelude.{◌≡◌, length};
     ghost use Rattle.draft.specs.Drafts.{Plan};
 
     ghost Value = { Plan };
 
     ghost view = { λ d. record { bond_book = d.bond_book; cash_book = d.cash_book; rule = d.rule; accounts = d.accounts; bonds = d.bonds; stocks = d.stocks; balances = d.balances } };
-
-    ghost invariant = { λ d. (length d.accounts ≡ 32) × (length d.bonds ≡ 16) × (length d.stocks ≡ 1024) × (length d.balances ≡ 32) };
 }

@@ -22,14 +22,17 @@ pub fn rate(r001: u32) -> u16
 pub fn fee(face: u32, rate: u16, days: u16) -> u64
     ensures { result ≡ fee_of face rate days }
 {
-    half_up(face as u64 * rate as u64 * days as u64, FEE_DIVISOR)
+    half_up(
+        u64::from(face) * u64::from(rate) * u64::from(days),
+        FEE_DIVISOR,
+    )
 }
 
 /// The clearing fee for a term of days, rounded half up.
 pub fn clearing_fee(face: u32, days: u16) -> u64
     ensures { result ≡ clearing_of face days }
 {
-    half_up(face as u64 * days as u64, CLEARING_DIVISOR)
+    half_up(u64::from(face) * u64::from(days), CLEARING_DIVISOR)
 }
 
 /// What each lender gets of the fee: the fee less the clearing fee by the shares, rounded down.

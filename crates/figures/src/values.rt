@@ -11,10 +11,10 @@ pub fn row_value(face: u32, price: u16, discount: u16, multiplier: u16) -> u64
     if multiplier == 0 {
         return 0;
     }
-    face as u64 * price as u64 * discount as u64 / (10_000 * multiplier as u64)
+    u64::from(face) * u64::from(price) * u64::from(discount) / (10_000 * u64::from(multiplier))
 }
 
-/// A grade's multiplier; 0 past grade 7, and no `None`, since no caller has such a grade.
+/// A grade's multiplier; 0 past grade 7, and no `None`, since a member's grade is 0 to 7 from the opening on.
 pub fn multiplier(grade: u8) -> u16
     ensures { result ≡ multiplier_of grade }
 {
@@ -35,19 +35,19 @@ pub fn multiplier(grade: u8) -> u16
 pub fn lent_value(face: u32, price: u16, adjustment: u16) -> u64
     ensures { result ≡ lent_value face price adjustment }
 {
-    (face as u64 * price as u64 * adjustment as u64 + 999_999) / 1_000_000
+    (u64::from(face) * u64::from(price) * u64::from(adjustment) + 999_999) / 1_000_000
 }
 
 /// What a lender's share comes to at a figure in fen for 100 yuan, as a price, rounded down.
 pub fn for_share(share: u32, figure: u32) -> u64
     ensures { result ≡ for_share share figure }
 {
-    share as u64 * figure as u64 / 100
+    u64::from(share) * u64::from(figure) / 100
 }
 
 /// Whether pledge rows of this total cover the lent value and the fee.
 pub fn covers(rows: u128, lent: u64, fee: u64) -> bool
     ensures { result ≡ covers_of rows lent fee }
 {
-    rows >= lent as u128 + fee as u128
+    rows >= u128::from(lent) + u128::from(fee)
 }

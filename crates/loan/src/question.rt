@@ -41,6 +41,7 @@ fn lenders(by: &[u64; 32]) -> u32
     ensures { (a : ℕ) → a < 32 → holds result a ≡ nat_lt 0 (slice_index by.now a) }
 {
     let mut mask: u32 = 0;
+    // A loop: a fold would carry the same mask through a closure.
     for (a, &share) in by.iter().enumerate() {
         if share > 0 {
             mask |= 1 << a;

@@ -16,6 +16,7 @@ pub enum Way {
 pub fn move_each<B: Book>(book: &mut B, column: Column, way: Way, amounts: &[u64; 32])
     ensures { B.Book.amounts book.new ≡ after_moves B.Book.LARGEST (B.Book.amounts book.old) (moves_by column way 0 amounts.now) }
 {
+    // A loop: each move finds the book as the one before it left it.
     for (account, &amount) in amounts.iter().enumerate() {
         move_one(book, column.place(account as u8), way, amount);
     }

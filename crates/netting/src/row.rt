@@ -6,7 +6,8 @@ use crate::entry::Entry;
 use book::{Book, LARGEST_AMOUNT, Move, MoveRefusal};
 
 /// A row of places, each with its opening amount and its net change since. It has a ghost field and no model: a model's
-/// value would be a bare list, of which the book's law on the count of places is not true.
+/// value would be a bare list, of which the book's law on the count of places is not true. Standing and netting are two
+/// books by the rules of a pool; what a move comes to, which they share, is `book::Move`.
 #[derive(Drop)]
 pub struct Netting<const N: usize> {
     places: [Entry; N],

@@ -66,7 +66,8 @@ fn front(rows: &[OrderRow; 4], count: u64) -> &[OrderRow]
     &rows[..rows.len().min(count as usize)]
 }
 
-// The pledge of the first `count` rows, or the first of them that is refused.
+// The pledge of the first `count` rows, or the first of them that is refused. Not joined with `check_rows`: the proof needs
+// a file, and a bug in the public call is to be refused at its own line.
 fn pledge_of<B: Book>(
     bonds: &B,
     records: &Records,
@@ -78,6 +79,7 @@ fn pledge_of<B: Book>(
 {
     let used = front(rows, count);
     let mut pledge = Pledge::default();
+    // A loop: each row is judged beside the rows that the loop has put into the pledge.
     for (i, &row) in used.iter().enumerate() {
         pledge.rows[i] = check_row(bonds, records, terms, &pledge, i as u64, row)?;
     }

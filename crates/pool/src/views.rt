@@ -18,8 +18,8 @@ impl<B: Book, C: Book, S: SharingRule> Pool<B, C, S> {
         self.parts.bonds.amount(place)
     }
 
-    // Not joined with `bond_amount`: the two books may be of two types, so one function could not pick the book.
     /// The cash, in fen, at a place of the cash book; `None` exactly when there is no such place.
+    // Not joined with `bond_amount`: the two books may be of two types, so one function could not pick the book.
     pub fn cash_amount(&self, place: usize) -> Option<u64>
         ensures { result ≡ amount_at (state_of B.Book C.Book S.SharingRule self.now).cash.amounts place }
     {

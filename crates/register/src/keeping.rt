@@ -1,5 +1,5 @@
 //! Loans are added, swapped a row and marked at the end of a day; none is ever taken out.
-ghost use Rattle.std.specs.Prelude.{◌≡◌, [], map, length, IfOk, if◌then◌else◌, Some, None};
+ghost use Rattle.std.specs.Prelude.{◌≡◌, ◌≤◌, [], map, length, IfOk, if◌then◌else◌, Some, None};
 ghost use Rattle.terms.specs.Refusals.{Settles};
 ghost use Rattle.loan.specs.Kept.{row_of, shut_on};
 ghost use Rattle.register.specs.Loans.{is_full, with_loan, swap_refused, with_exchange, all_shut};
@@ -21,7 +21,8 @@ impl Register {
 
     /// Whether as many loans have been accepted as rows are kept.
     pub fn is_full(&self) -> bool
-        ensures { result ≡ is_full self.now }
+        ensures full { result ≡ is_full self.now }
+        ensures few { length self.now.rows ≤ self.now.most }
     {
         self.rows.len() >= usize::from(self.most)
     }

@@ -12,7 +12,7 @@ use std::marker::Model;
 #[derive(Drop)]
 pub struct Register {
     rows: Vec<LoanRow>,
-    /// The number of loan rows kept.
+    /// The number of loan rows kept, for which all memory was asked at the opening.
     most: u16,
 }
 

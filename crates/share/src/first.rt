@@ -20,6 +20,7 @@ impl SharingRule for FirstRule {
     fn share(&self, limits: &[u64; 32], want: u64) -> [u64; 32] {
         let mut shares = [0; 32];
         let mut left = want;
+        // A loop, since each turn takes from what is left: of a closure that changes something, a proof knows nothing after it.
         for (i, &limit) in limits.iter().enumerate() {
             shares[i] = fill(&mut left, limit);
         }

@@ -13,6 +13,7 @@ pub fn floor_parts(amount: u64, weights: &[u64; 32]) -> [u64; 32]
 {
     let all = total(weights, &Every);
     let mut parts = [0; 32];
+    // A loop: the cast holds since no weight is above the total, which a closure cannot know of what it is called with.
     for (i, &weight) in weights.iter().enumerate() {
         parts[i] = floor_part(amount, weight, all) as u64;
     }
@@ -31,6 +32,7 @@ pub fn part_by(amount: u64, weights: &[u64; 32]) -> [u64; 32]
     }
     let mut left = amount - total(&floors, &Every) as u64;
     let mut parts = floors;
+    // A loop, since each turn takes from the units left: of a closure that changes something, a proof knows nothing after it.
     for (i, &weight) in weights.iter().enumerate() {
         parts[i] = floors[i] + take_unit(&mut left, amount, weight, all);
     }
@@ -44,7 +46,7 @@ fn floor_part(amount: u64, weight: u64, all: u128) -> u128
     if all == 0 {
         return 0;
     }
-    amount as u128 * weight as u128 / all
+    u128::from(amount) * u128::from(weight) / all
 }
 
 /// Takes one of the units left, if there is one and the part by one weight of all was rounded down.
@@ -53,7 +55,7 @@ fn take_unit(left: &mut u64, amount: u64, weight: u64, all: u128) -> u64
     ensures unit { result ≡ min left.old (rounded_down amount all weight) }
     ensures rest { left.new ≡ left.old - result }
 {
-    if *left == 0 || amount as u128 * weight as u128 % all == 0 {
+    if *left == 0 || u128::from(amount) * u128::from(weight) % all == 0 {
         return 0;
     }
     *left -= 1;

@@ -27,7 +27,7 @@ fn added<Q, T: AmountFor<Q>>(sum: u128, row: &T, asked: &Q) -> u128
     ensures sum { result ≡ sum + T.amount_for asked.now row.now }
     ensures bound { result ≤ sum + 18446744073709551615 }
 {
-    sum + row.amount_for(asked) as u128
+    sum + u128::from(row.amount_for(asked))
 }
 
 /// Asks for the whole amount of every row.

@@ -41,6 +41,7 @@ pub fn swap<B: Book>(
     swap_in(bonds, records, loans, loan, &kept, row, new)
 }
 
+// The bond book and the loans are written here, so they are passed by themselves and in no view of what is read.
 // The later rules are found before the value is tried, since the trial asks for them.
 fn swap_in<B: Book>(
     bonds: &mut B,

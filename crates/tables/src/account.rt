@@ -92,7 +92,7 @@ pub struct Account {
     pub presets: [u64; 16],
 }
 
-/// An account as an opening tells it; any numbers may stand here.
+/// An account as an opening tells it; any numbers may stand here, since whoever opens a pool may send anything.
 #[derive(Clone, Copy, Debug, Default, PartialEq, Eq)]
 pub struct AccountFigures {
     pub right: u64,

@@ -11,9 +11,9 @@ pub struct Bond {
     pub unit: u32,
     /// Fen for 100 yuan of face.
     pub price: u16,
-    /// Ten-thousandths of the value that count in a pledge; 0 means never a pledge.
+    /// Ten-thousandths of the value that count in a pledge; 0 means never a pledge, since it counts nothing.
     pub discount: u16,
-    /// Ten-thousandths at which the lent value counts; 0 means never lent.
+    /// Ten-thousandths at which the lent value counts; 0 means never lent, and is told so by an opening.
     pub adjustment: u16,
     /// Per mille of the bond's total that one borrower may have out.
     pub lent_limit: u16,
@@ -22,7 +22,7 @@ pub struct Bond {
     pub maturity: u32,
 }
 
-/// A bond as an opening tells it; any numbers may stand here.
+/// A bond as an opening tells it; any numbers may stand here, since whoever opens a pool may send anything.
 #[derive(Clone, Copy, Debug, Default, PartialEq, Eq)]
 pub struct BondFigures {
     pub unit: u64,

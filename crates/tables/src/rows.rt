@@ -6,7 +6,8 @@ ghost use Rattle.terms.specs.declared.refusal.Cause.TheVariants as cause;
 
 use terms::{Cause, Layer, Refusal};
 
-/// A row that is read from figures of the type F.
+/// A row that is read from figures of the type F. A trait of its own and no `TryFrom`: the proof of a table needs the row
+/// that figures mean as a function of them, and of a `TryFrom` only a relation is known.
 pub trait ReadFrom<F>: Copy + Default {
     /// A figure of the row is outside its range.
     ghost bad: { F → Bool };
@@ -24,6 +25,7 @@ pub fn read_table<F, R: ReadFrom<F>, const N: usize>(figures: &[F; N]) -> Result
     ensures sized { IfOk result (λ rows. length rows ≡ N) }
 {
     let mut rows = [R::default(); N];
+    // A loop, since of `try_from_fn` it is not known that its error is the first one.
     for (i, one) in figures.iter().enumerate() {
         let Some(row) = R::read(one) else {
             return Err(refuse_row(i));

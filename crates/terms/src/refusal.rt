@@ -1,12 +1,13 @@
 //! A refusal names its cause, the spot that it speaks of, and the layer that found it.
 ghost use Rattle.std.specs.Prelude.{◌≡◌, Some};
+ghost use Rattle.std.proofs.Math.Utf8.{encode};
 ghost use Rattle.terms.specs.Refusals.{number, letter_of, refuse};
 ghost use Rattle.terms.specs.Words.{word_of, refusal_text};
 
 use std::error::Error;
 use std::fmt;
 
-/// Why a call is refused. `code` gives the number that members know it by, and it is displayed as its word.
+/// Why a call is refused. `code` gives the number that members know it by; a cause is displayed as its word.
 #[derive(Clone, Copy, Debug, PartialEq, Eq)]
 pub enum Cause {
     Account = 1,
@@ -107,6 +108,15 @@ impl Layer {
     }
 }
 
+impl fmt::Display for Layer {
+    ghost output = { λ layer. Some (encode (letter_of layer)) };
+
+    fn fmt<W: fmt::Write>(&self, f: &mut fmt::Formatter<W>) -> fmt::Result {
+        let letter = self.letter();
+        write!(f, "{letter}")
+    }
+}
+
 #[derive(Clone, Copy, Debug, PartialEq, Eq)]
 pub struct Refusal {
     pub cause: Cause,
@@ -123,8 +133,8 @@ impl fmt::Display for Refusal {
         let code = self.cause.code();
         let cause = self.cause;
         let spot = self.spot;
-        let letter = self.layer.letter();
-        write!(f, "{code} {cause} at {spot} in {letter}")
+        let layer = self.layer;
+        write!(f, "{code} {cause} at {spot} in {layer}")
     }
 }
 

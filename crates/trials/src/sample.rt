@@ -7,6 +7,7 @@ use tables::{AccountFigures, BondFigures};
 use terms::Refusal;
 
 /// What a call answered: a refusal is told by its number, its spot and the letter of its layer.
+// In numbers, since these are what members are told and what the tests are about.
 pub(crate) fn told<X: Drop>(answer: Result<X, Refusal>) -> Result<(), (u8, u64, char)> {
     match answer {
         Ok(_) => Ok(()),
