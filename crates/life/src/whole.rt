@@ -38,9 +38,14 @@ fn live_on<B: Book, C: Book, S: SharingRule>(
 ) -> Result<Lived<B, C, S>, Unopened<B, C, S>>
     ensures { Lives B.Book C.Book S.SharingRule parts (opening_of B.Book C.Book S.SharingRule parts figures.now) calls.now result }
 {
-    let (mut pool, first) = Pool::open(parts, figures)?;
-    let day = run(&mut pool, first, calls);
-    Ok(Lived { pool, day })
+    // No `?`: it would move the whole pool twice more.
+    match Pool::open(parts, figures) {
+        Ok((mut pool, first)) => {
+            let day = run(&mut pool, first, calls);
+            Ok(Lived { pool, day })
+        }
+        Err(unopened) => Err(unopened),
+    }
 }
 
 fn run<B: Book, C: Book, S: SharingRule>(

@@ -14,7 +14,11 @@ fn opened() -> Result<(Sample, OpenDay), Fail> {
 fn opened_on(day: u64) -> Result<(Sample, OpenDay), Fail> {
     let mut figures = figures();
     figures.day = day;
-    Pool::open(parts(), &figures).map_err(|_| Fail::new("not opened"))
+    // No `map_err`: it would move the whole pool once more.
+    match Pool::open(parts(), &figures) {
+        Ok(opened) => Ok(opened),
+        Err(_) => Err(Fail::new("not opened")),
+    }
 }
 
 #[test]

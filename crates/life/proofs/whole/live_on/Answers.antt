@@ -7,10 +7,10 @@ use Rattle.life.specs.Lives.{told, ended}
 use Rattle.life.proofs.Histories.{leads_on}
 use Rattle.life.proofs.whole.live_on.Goals as goal
 
-pub returns : goal.returns
-returns g c =
+pub returns-in-Ok : goal.returns-in-Ok
+returns-in-Ok g c =
     let o = opening_of g.B.Book g.C.Book g.S.SharingRule c.args.parts c.args.figures.now in
-    let h = c.in_ok-pool.ensures.0 in
+    let h = c.in-Ok.ensures.0 in
     let calls = c.args.calls.now in
     let t = state_of g.B.Book g.C.Book g.S.SharingRule c.run-day.new.pool in
     let e : t ≡ ended (opening_state o) calls = c.run-day.ensures.after ∙ ap (λ (s : State). ended s calls) h.1 in
