@@ -33,10 +33,10 @@ sum_le (x ∷ xs) [] e h = omega arith
 sum_le (x ∷ xs) (y ∷ ys) e h = omega (arith, sum_by-cons (λ x. x) x xs, sum_by-cons (λ x. x) y ys, h 0, sum_le xs ys (omega arith) (λ k. h (suc k)))
 
 -- a share within the limit in units is within what can be lent
-share_fits : (u : ℕ) (shares lendable : List ℕ) (k : ℕ) → get_or shares k 0 ≤ get_or (in_units u lendable) k 0 → get_or shares k 0 * u ≤ get_or lendable k 0
+pub share_fits : (u : ℕ) (shares lendable : List ℕ) (k : ℕ) → get_or shares k 0 ≤ get_or (in_units u lendable) k 0 → get_or shares k 0 * u ≤ get_or lendable k 0
 share_fits u shares lendable k h = omega (arith, mul-le-mul_right u h, at_units u lendable k)
 
-makes : (u : ℕ) (lendable shares : List ℕ) (face : ℕ) → face % u ≡ 0 → length shares ≡ length lendable → Shared (in_units u lendable) (face / u) shares → Makes lendable face (times_unit u shares)
+pub makes : (u : ℕ) (lendable shares : List ℕ) (face : ℕ) → face % u ≡ 0 → length shares ≡ length lendable → Shared (in_units u lendable) (face / u) shares → Makes lendable face (times_unit u shares)
 makes u lendable shares face whole count s = record {
   count = length-map shares (λ x. x * u) ∙ count;
   within = λ k. omega (arith, at_times u shares k, share_fits u shares lendable k (s.within k));
@@ -48,7 +48,7 @@ units_at u [] k = sym (zero-div u)
 units_at u (x ∷ xs) zero = refl
 units_at u (x ∷ xs) (suc k) = units_at u xs k
 
-none_makes : (u : ℕ) (lendable : List ℕ) (face : ℕ) → 0 < u → sum (in_units u lendable) < face / u → NoneMakes u lendable face
+pub none_makes : (u : ℕ) (lendable : List ℕ) (face : ℕ) → 0 < u → sum (in_units u lendable) < face / u → NoneMakes u lendable face
 none_makes u lendable face p h shares m =
     let le : sum shares ≤ sum (in_units u lendable) =
     sum_le shares (in_units u lendable) (sym (length-map shares (λ s. s * u)) ∙ m.count ∙ sym (length-map lendable (λ x. x / u)))

@@ -6,6 +6,7 @@ ghost use Rattle.std.specs.Prelude.{◌≡◌, ℕ, ◌*◌, ◌/◌, ◌^◌, �
 ghost use Rattle.allot.specs.Allotments.{in_units, times_unit, allotted, ExactlyMade};
 
 use share::{SharingRule, shared};
+use std::array;
 use sums::total::{Every, total};
 
 /// The shares that make the face; none exactly where no shares in whole units within the lendable faces make it.
@@ -41,7 +42,7 @@ fn units(amount: u64, unit: u32) -> u64
 fn in_units(unit: u32, amounts: &[u64; 32]) -> [u64; 32]
     ensures { result ≡ in_units unit amounts.now }
 {
-    amounts.map(|amount| units(amount, unit))
+    array::from_fn(|account| units(amounts[account], unit))
 }
 
 // Shares in units as faces.
@@ -49,7 +50,7 @@ fn times_unit(unit: u32, shares: &[u64; 32]) -> [u64; 32]
     requires { (k : ℕ) → slice_index shares.now k * unit < 2 ^ 64 }
     ensures { result ≡ times_unit unit shares.now }
 {
-    shares.map(|share| share * u64::from(unit))
+    array::from_fn(|account| shares[account] * u64::from(unit))
 }
 
 #[cfg(test)]

@@ -37,7 +37,7 @@ impl Records {
         if is_no_bond(bond) {
             return Err(Layer::Order.refuse(Cause::Bond, 0));
         }
-        let lender = self.accounts[account as usize];
+        let lender = &self.accounts[account as usize];
         if !lender.right.may_lend() {
             return Err(Layer::Order.refuse(Cause::Right, account));
         }

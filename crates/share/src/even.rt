@@ -5,6 +5,7 @@ ghost use Rattle.share.specs.Shares.{capped_at, even_shares};
 ghost use Rattle.share.specs.Laws.{even_length, even_law};
 
 use crate::SharingRule;
+use std::array;
 use sums::parts::part_by;
 
 /// Parts the want by the limits.
@@ -27,7 +28,8 @@ impl SharingRule for EvenRule {
 pub fn capped(limits: &[u64; 32], want: u64) -> [u64; 32]
     ensures { result ≡ capped_at limits.now want }
 {
-    limits.map(|limit| within(limit, want))
+    // By numbers, since the library's `map` of an array takes ten times as long.
+    array::from_fn(|account| within(limits[account], want))
 }
 
 /// A limit as it counts: at most the want.

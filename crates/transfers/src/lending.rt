@@ -24,8 +24,8 @@ pub fn lendable_face<B: Book>(
     if is_no_bond(bond) {
         return Err(Layer::Order.refuse(Cause::Bond, 0));
     }
-    let lender = records.accounts[account as usize];
+    let lender = &records.accounts[account as usize];
     let available = held(bonds, available_place(account as u8, bond as u8));
     let preset = lender.presets[bond as usize];
-    Ok(lendable(lender, available, preset, 0))
+    Ok(lendable(*lender, available, preset, 0))
 }

@@ -1,9 +1,9 @@
-use Rattle.std.proofs.Common.{◌*◌, rules}
-use Rattle.sums.proofs.Mapped.{mapped, callable}
+use Rattle.std.proofs.Common.{◌*◌, get_or, refl, rules}
+use Rattle.sums.proofs.Filled.{filled_from}
 use Rattle.allot.proofs.times_unit.Goals as goal
 
-pub map-requires : goal.map-requires
-map-requires c = (search rules, (search rules, (search rules, callable _ _ _ 0 (λ x q k. search rules) c.args.shares.now (λ k l. search rules))))
-
 pub returns : goal.returns
-returns c = mapped _ _ (λ x. x * c.args.unit) (λ x r f' k. search rules) _ _ 32 (search rules) c.map.ensures.items
+returns c =
+    let xs = c.args.shares.now in
+    let unit = c.args.unit in
+    filled_from _ _ (λ k. get_or xs k 0 * unit) 32 (λ i y q l e. search rules) _ xs (λ x. x * unit) (search rules) (λ k. refl) c.from_fn.ensures.items
