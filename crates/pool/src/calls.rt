@@ -98,9 +98,7 @@ impl<B: Book, C: Book, S: SharingRule> Pool<B, C, S> {
 }
 
 impl<B: Book, C: Book, S: SharingRule> Pool<B, C, S> {
-    // Any call, made with a day of that number, as the records and the transfers make it. Inlined, so that a public call
-    // neither writes its numbers into a `Call` nor looks for its arm.
-    #[inline(always)]
+    // Any call, made with a day of that number, as the records and the transfers make it.
     fn make(&mut self, today: u32, call: Call) -> Result<(), Refusal>
         ensures { Obeys (state_of B.Book C.Book S.SharingRule self.old) today call tt result (state_of B.Book C.Book S.SharingRule self.new) }
     {

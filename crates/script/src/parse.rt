@@ -38,10 +38,16 @@ fn readable(line: &[u8]) -> Result<&str, LineError<'_>>
     if let [.., b'\r'] = line {
         return Err(LineError::of_line(Fault::CarriageReturn));
     }
-    if text.chars().any(|c| c.is_control()) {
+    if line.iter().any(|b| begins_control(*b)) && text.chars().any(|c| c.is_control()) {
         return Err(LineError::of_line(Fault::ControlCharacter));
     }
     Ok(text)
+}
+
+// Whether a control character may begin with this byte: those below 128 are a byte each, those from 128 to 159 begin with
+// 0xC2. Few lines have such a byte, so the characters of the others need not be taken apart.
+fn begins_control(byte: u8) -> bool {
+    byte.is_ascii_control() || byte == 0xC2
 }
 
 fn before_comment(text: &str) -> &str {

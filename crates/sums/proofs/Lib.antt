@@ -1,5 +1,4 @@
 pub mod Filled
 pub mod Fronts
 pub mod Listed
-pub mod Mapped
 pub mod Parted

@@ -120,8 +120,6 @@ impl ReadFrom<AccountFigures> for Account {
 }
 
 /// The face of a bond that an account may lend, from what it has available there, its preset and what it has lent.
-/// Inlined, so that no account is copied.
-#[inline(always)]
 pub fn lendable(account: Account, available: u64, preset: u64, lent: u64) -> u64
     ensures { result ≡ lendable_of account available preset lent }
 {
