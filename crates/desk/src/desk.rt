@@ -62,7 +62,17 @@ pub(crate) fn opening_after_open<'a>(line: u64) -> Stop<'a> {
 // Text is printed as it stands; whatever else is asked finds no pool.
 fn answer_without_pool(item: Item<'_>, out: &mut Output) -> io::Result<()> {
     match item {
-        Item::Say(text) => writeln!(out, "{text}"),
-        _ => writeln!(out, "{}", Answer::NoPool),
+        Item::Say(text) => say(out, text),
+        _ => write_answer(out, Answer::NoPool),
     }
+}
+
+/// Writes text on a line of its own.
+pub(crate) fn say(out: &mut Output, text: &str) -> io::Result<()> {
+    writeln!(out, "{text}")
+}
+
+/// Writes an answer on a line of its own.
+pub(crate) fn write_answer(out: &mut Output, answer: Answer) -> io::Result<()> {
+    writeln!(out, "{answer}")
 }

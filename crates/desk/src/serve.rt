@@ -1,6 +1,6 @@
 //! Runs a script with any pool.
 use crate::damage::Stop;
-use crate::desk::{Desk, Output, opening_after_open};
+use crate::desk::{Desk, Output, opening_after_open, say, write_answer};
 use answers::Answer;
 use book::Book;
 use life::{CallError, Stepped, step};
@@ -8,7 +8,6 @@ use pool::{Day, OpenDay, Pool, Unopened};
 use script::Item;
 use share::SharingRule;
 use std::io;
-use std::io::Write;
 
 impl<'a, 'o> Desk<'a, 'o> {
     /// Tells whether a pool was opened, and runs the rest of a script with it, if it was.
@@ -18,11 +17,11 @@ impl<'a, 'o> Desk<'a, 'o> {
     ) -> Result<(), Stop<'a>> {
         match opened {
             Ok((pool, day)) => {
-                writeln!(self.out, "{}", Answer::Accepted)?;
+                write_answer(self.out, Answer::Accepted)?;
                 self.serve(pool, Day::Open(day))
             }
             Err(unopened) => {
-                writeln!(self.out, "{}", Answer::Refused(unopened.refusal))?;
+                write_answer(self.out, Answer::Refused(unopened.refusal))?;
                 self.run_without_pool()
             }
         }
@@ -41,14 +40,14 @@ impl<'a, 'o> Desk<'a, 'o> {
                 Item::Part(_) | Item::Open(_) => return Err(opening_after_open(line)),
                 Item::Call(call) => {
                     let Stepped { day: next, outcome } = step(&mut pool, day, call);
-                    writeln!(self.out, "{}", answer_to(outcome, &next))?;
+                    write_answer(self.out, answer_to(outcome, &next))?;
                     day = next;
                 }
                 Item::Amounts => write_amounts(&pool, self.out)?,
                 Item::Lendable { account, bond } => {
-                    writeln!(self.out, "{}", Answer::from(pool.lendable(account, bond)))?;
+                    write_answer(self.out, Answer::from(pool.lendable(account, bond)))?;
                 }
-                Item::Say(text) => writeln!(self.out, "{text}")?,
+                Item::Say(text) => say(self.out, text)?,
             }
         }
         Ok(())
@@ -73,13 +72,13 @@ fn write_amounts<B: Book, C: Book, S: SharingRule>(
 ) -> io::Result<()> {
     for place in 0..1024 {
         if let Some(amount) = pool.bond_amount(place).filter(|amount| *amount != 0) {
-            writeln!(out, "{}", Answer::BondAmount { place, amount })?;
+            write_answer(out, Answer::BondAmount { place, amount })?;
         }
     }
     for account in 0..32 {
         if let Some(amount) = pool.cash_amount(account).filter(|amount| *amount != 0) {
-            writeln!(out, "{}", Answer::CashAmount { account, amount })?;
+            write_answer(out, Answer::CashAmount { account, amount })?;
         }
     }
-    writeln!(out, "{}", Answer::End)
+    write_answer(out, Answer::End)
 }

@@ -1,10 +1,9 @@
 //! A netting book keeps opening amounts and signed net changes, for any count of places.
-ghost use Rattle.std.specs.Prelude.{◌≡◌, ◌<◌, length, slice_index};
+ghost use Rattle.std.specs.Prelude.{◌≡◌, length};
 ghost use Rattle.book.specs.Moves.{largest_amount};
 
 use crate::entry::Entry;
 use book::{Book, LARGEST_AMOUNT, Move, MoveRefusal};
-use std::array;
 
 /// A row of places, each with its opening amount and its net change since. It has a ghost field and no model: a model's
 /// value would be a bare list, of which the book's law on the count of places is not true. Standing and netting are two
@@ -27,13 +26,7 @@ impl<const N: usize> Netting<N> {
         ensures { result.places ≡ opening.entry }
     {
         Netting {
-            // By numbers, since the library's `map` of an array takes seven times as long.
-            places: array::from_fn(
-                |place|
-                    requires { place < N }
-                    ensures { result ≡ slice_index opening place }
-                { Entry::open(opening[place]) },
-            ),
+            places: opening.map(|amount| Entry::open(amount)),
         }
     }
 }

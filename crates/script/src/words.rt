@@ -17,9 +17,12 @@ impl<'a> Words<'a> {
     /// columns have them.
     pub(crate) fn next(&mut self) -> Option<&'a str> {
         let text = self.0.trim_ascii_start();
+        if text.is_empty() {
+            return None;
+        }
         let (word, rest) = text.split_once(' ').unwrap_or((text, ""));
         self.0 = rest;
-        Some(word).filter(|word| !word.is_empty())
+        Some(word)
     }
 
     /// The next word, as a number.
